@@ -1,6 +1,8 @@
-ghost use Rattle.std.specs.Prelude.{◌≡◌, ℕ, List, IfOk};
+ghost use Rattle.std.specs.Prelude.{◌≡◌, ◌↔◌, ℕ, List, IfOk, IsTrue, nat_eq};
+ghost use Rattle.std.specs.Cmp.{partial_equiv_from_equiv};
+ghost use Rattle.std.specs.Cmp.Lexicographic.{pointwise, nat_list_eq_equiv};
 
-use crate::NoMemory;
+use crate::{NoMemory, TryCopy};
 use std::alloc::Global;
 use std::marker::Model;
 
@@ -42,4 +44,27 @@ impl Bytes {
         let bytes = Vec::from_slice(alloc, self.bytes.as_slice())?;
         Ok(Bytes { bytes })
     }
+}
+
+impl TryCopy for Bytes {
+    fn copy(&self, alloc: Global) -> Result<Bytes, NoMemory> {
+        Bytes::copy(self, alloc)
+    }
+}
+
+impl PartialEq for Bytes {
+    ghost eq = { pointwise nat_eq };
+
+    ghost laws = { partial_equiv_from_equiv nat_list_eq_equiv };
+
+    fn eq(&self, other: &Bytes) -> bool
+        ensures value { result ≡ pointwise nat_eq self.now other.now }
+        ensures same { IsTrue result ↔ (self.now ≡ other.now) }
+    {
+        self.as_slice() == other.as_slice()
+    }
+}
+
+impl Eq for Bytes {
+    ghost laws = { nat_list_eq_equiv };
 }

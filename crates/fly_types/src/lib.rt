@@ -1,6 +1,7 @@
 //! The values that every layer names: texts, bytes, lists, and want of memory; and the types and literals of workflows.
 #![tactic(auto)]
 
+mod boxed;
 mod bytes;
 mod kinds;
 mod list;
@@ -8,9 +9,10 @@ mod literals;
 mod memory;
 mod text;
 
+pub use boxed::Boxed;
 pub use bytes::Bytes;
 pub use kinds::{BlobType, LiteralType, Simple};
-pub use list::List;
-pub use literals::{Literal, LiteralMap, Tree};
+pub use list::{List, TryCopy};
+pub use literals::{Literal, LiteralMap, Said, Tree, Variable};
 pub use memory::NoMemory;
 pub use text::Text;

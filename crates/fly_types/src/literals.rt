@@ -1,8 +1,10 @@
-use crate::{BlobType, Bytes, List, LiteralType, Text};
-use sqlite_items::Boxed;
+ghost use Rattle.std.specs.Prelude.{◌≡◌, IfOk};
+
+use crate::{BlobType, Boxed, Bytes, List, LiteralType, NoMemory, Text, TryCopy};
+use std::alloc::Global;
 
 /// A JSON value whose numbers are whole, as the content of a STRUCT.
-#[derive(Debug, Drop)]
+#[derive(Debug, Drop, PartialEq, Eq)]
 pub enum Tree {
     Null,
     Bool(bool),
@@ -13,17 +15,32 @@ pub enum Tree {
 }
 
 /// A value of a workflow, as flyteidl's `Literal`.
-#[derive(Debug, Drop)]
+#[derive(Debug, Drop, PartialEq, Eq)]
 pub enum Literal {
     None,
     Integer(i64),
     Text(Text),
     Boolean(bool),
-    Datetime { seconds: i64, nanos: u32 },
-    Duration { seconds: i64, nanos: i32 },
-    Blob { uri: Text, form: BlobType },
-    Binary { value: Bytes, tag: Text },
-    Error { node: Text, message: Text },
+    Datetime {
+        seconds: i64,
+        nanos: u32,
+    },
+    Duration {
+        seconds: i64,
+        nanos: i32,
+    },
+    Blob {
+        uri: Text,
+        form: BlobType,
+    },
+    Binary {
+        value: Bytes,
+        tag: Text,
+    },
+    Error {
+        node: Text,
+        message: Text,
+    },
     Generic(Tree),
     Union {
         value: Boxed<Literal>,
@@ -34,7 +51,218 @@ pub enum Literal {
 }
 
 /// Literals by name, as flyteidl's `LiteralMap`. The entries are sorted by name, and the names differ.
-#[derive(Debug, Drop)]
+#[derive(Debug, Drop, PartialEq, Eq)]
 pub struct LiteralMap {
     pub entries: List<(Text, Literal)>,
+}
+
+/// An input or an output of an interface: its name and its type.
+#[derive(Debug, Drop, PartialEq, Eq)]
+pub struct Variable {
+    pub name: Text,
+    pub kind: LiteralType,
+}
+
+/// What a child's standard output says of its task.
+#[derive(Debug, Drop, PartialEq, Eq)]
+pub enum Said {
+    Outputs(LiteralMap),
+    Error {
+        code: Text,
+        message: Text,
+        recoverable: bool,
+    },
+    /// More bytes than a document may have.
+    TooLarge,
+    /// Bytes that are not the document that the status calls for.
+    Neither,
+}
+
+impl Tree {
+    #[cycle(copy_tree)]
+    pub fn copy(&self, alloc: Global) -> Result<Tree, NoMemory>
+        ensures { IfOk result (λ c. c ≡ self.now) }
+    {
+        match self {
+            Tree::Null => Ok(Tree::Null),
+            Tree::Bool(value) => Ok(Tree::Bool(*value)),
+            Tree::Whole(value) => Ok(Tree::Whole(*value)),
+            Tree::Text(text) => Ok(Tree::Text(text.copy(alloc)?)),
+            Tree::List(trees) => {
+                let copied = copy_trees(alloc, trees.as_slice())?;
+                Ok(Tree::List(List::from_vec(copied)))
+            }
+            Tree::Object(members) => {
+                let copied = copy_members(alloc, members.as_slice())?;
+                Ok(Tree::Object(List::from_vec(copied)))
+            }
+        }
+    }
+}
+
+#[cycle(copy_tree)]
+fn copy_trees(alloc: Global, trees: &[Tree]) -> Result<Vec<Tree>, NoMemory>
+    ensures { IfOk result (λ c. c.items ≡ trees.now) }
+{
+    let mut copied = Vec::with_capacity(alloc, trees.len())?;
+    for tree in trees {
+        copied.push(tree.copy(alloc)?)?;
+    }
+    Ok(copied)
+}
+
+#[cycle(copy_tree)]
+fn copy_members(alloc: Global, members: &[(Text, Tree)]) -> Result<Vec<(Text, Tree)>, NoMemory>
+    ensures { IfOk result (λ c. c.items ≡ members.now) }
+{
+    let mut copied = Vec::with_capacity(alloc, members.len())?;
+    for (name, tree) in members {
+        let name = name.copy(alloc)?;
+        copied.push((name, tree.copy(alloc)?))?;
+    }
+    Ok(copied)
+}
+
+impl TryCopy for Tree {
+    fn copy(&self, alloc: Global) -> Result<Tree, NoMemory> {
+        Tree::copy(self, alloc)
+    }
+}
+
+impl Literal {
+    #[cycle(copy_literal)]
+    pub fn copy(&self, alloc: Global) -> Result<Literal, NoMemory>
+        ensures { IfOk result (λ c. c ≡ self.now) }
+    {
+        match self {
+            Literal::None => Ok(Literal::None),
+            Literal::Integer(value) => Ok(Literal::Integer(*value)),
+            Literal::Text(text) => Ok(Literal::Text(text.copy(alloc)?)),
+            Literal::Boolean(value) => Ok(Literal::Boolean(*value)),
+            Literal::Datetime { seconds, nanos } => Ok(Literal::Datetime {
+                seconds: *seconds,
+                nanos: *nanos,
+            }),
+            Literal::Duration { seconds, nanos } => Ok(Literal::Duration {
+                seconds: *seconds,
+                nanos: *nanos,
+            }),
+            Literal::Blob { uri, form } => Ok(Literal::Blob {
+                uri: uri.copy(alloc)?,
+                form: form.copy(alloc)?,
+            }),
+            Literal::Binary { value, tag } => Ok(Literal::Binary {
+                value: value.copy(alloc)?,
+                tag: tag.copy(alloc)?,
+            }),
+            Literal::Error { node, message } => Ok(Literal::Error {
+                node: node.copy(alloc)?,
+                message: message.copy(alloc)?,
+            }),
+            Literal::Generic(tree) => Ok(Literal::Generic(tree.copy(alloc)?)),
+            Literal::Union { value, variant } => {
+                let value = value.get().copy(alloc)?;
+                let variant = variant.get().copy(alloc)?;
+                Ok(Literal::Union {
+                    value: Boxed::new(alloc, value)?,
+                    variant: Boxed::new(alloc, variant)?,
+                })
+            }
+            Literal::Collection(literals) => {
+                let copied = copy_literals(alloc, literals.as_slice())?;
+                Ok(Literal::Collection(List::from_vec(copied)))
+            }
+            Literal::Map(entries) => {
+                let copied = copy_entries(alloc, entries.as_slice())?;
+                Ok(Literal::Map(List::from_vec(copied)))
+            }
+        }
+    }
+}
+
+#[cycle(copy_literal)]
+fn copy_literals(alloc: Global, literals: &[Literal]) -> Result<Vec<Literal>, NoMemory>
+    ensures { IfOk result (λ c. c.items ≡ literals.now) }
+{
+    let mut copied = Vec::with_capacity(alloc, literals.len())?;
+    for literal in literals {
+        copied.push(literal.copy(alloc)?)?;
+    }
+    Ok(copied)
+}
+
+#[cycle(copy_literal)]
+fn copy_entries(
+    alloc: Global,
+    entries: &[(Text, Literal)],
+) -> Result<Vec<(Text, Literal)>, NoMemory>
+    ensures { IfOk result (λ c. c.items ≡ entries.now) }
+{
+    let mut copied = Vec::with_capacity(alloc, entries.len())?;
+    for (name, literal) in entries {
+        let name = name.copy(alloc)?;
+        copied.push((name, literal.copy(alloc)?))?;
+    }
+    Ok(copied)
+}
+
+impl TryCopy for Literal {
+    fn copy(&self, alloc: Global) -> Result<Literal, NoMemory> {
+        Literal::copy(self, alloc)
+    }
+}
+
+impl LiteralMap {
+    pub fn copy(&self, alloc: Global) -> Result<LiteralMap, NoMemory>
+        ensures { IfOk result (λ c. c ≡ self.now) }
+    {
+        let copied = copy_entries(alloc, self.entries.as_slice())?;
+        Ok(LiteralMap {
+            entries: List::from_vec(copied),
+        })
+    }
+}
+
+impl TryCopy for LiteralMap {
+    fn copy(&self, alloc: Global) -> Result<LiteralMap, NoMemory> {
+        LiteralMap::copy(self, alloc)
+    }
+}
+
+impl Variable {
+    pub fn copy(&self, alloc: Global) -> Result<Variable, NoMemory>
+        ensures { IfOk result (λ c. c ≡ self.now) }
+    {
+        Ok(Variable {
+            name: self.name.copy(alloc)?,
+            kind: self.kind.copy(alloc)?,
+        })
+    }
+}
+
+impl TryCopy for Variable {
+    fn copy(&self, alloc: Global) -> Result<Variable, NoMemory> {
+        Variable::copy(self, alloc)
+    }
+}
+
+impl Said {
+    pub fn copy(&self, alloc: Global) -> Result<Said, NoMemory>
+        ensures { IfOk result (λ c. c ≡ self.now) }
+    {
+        match self {
+            Said::Outputs(outputs) => Ok(Said::Outputs(outputs.copy(alloc)?)),
+            Said::Error {
+                code,
+                message,
+                recoverable,
+            } => Ok(Said::Error {
+                code: code.copy(alloc)?,
+                message: message.copy(alloc)?,
+                recoverable: *recoverable,
+            }),
+            Said::TooLarge => Ok(Said::TooLarge),
+            Said::Neither => Ok(Said::Neither),
+        }
+    }
 }
