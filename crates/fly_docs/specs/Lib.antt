@@ -1,0 +1,4 @@
+pub mod Names
+pub mod Interfaces
+pub mod Edges
+pub mod Closures
