@@ -1,0 +1,123 @@
+-- The JSON of bundles and closures whose tasks have no metadata and whose variables are all INTEGER.
+use Rattle.std.specs.Prelude.{ℕ, List, [], ◌∷◌, map, drop, slice_get, Option, Some, None, codes}
+use Rattle.std.specs.List.{zip}
+use Rattle.serde_json.specs.Written.{compact_text}
+use Rattle.serde_json.specs.Data.{Data, string}
+use Rattle.fly_types.specs.declared.literals.Variable.{Variable}
+use Rattle.fly_docs.specs.declared.names.Identifier.{Identifier}
+use Rattle.fly_docs.specs.declared.interface.Interface.{Interface}
+use Rattle.fly_docs.specs.declared.interface.Bound.{Bound}
+use Rattle.fly_docs.specs.declared.interface.Bound.TheVariants.{Promise}
+use Rattle.fly_docs.specs.declared.interface.Binding.{Binding}
+use Rattle.fly_docs.specs.declared.task.Task.{Task}
+use Rattle.fly_docs.specs.declared.workflow.Node.{Node}
+use Rattle.fly_docs.specs.declared.workflow.Workflow.{Workflow}
+use Rattle.fly_docs.specs.declared.workflow.Bundle.{Bundle}
+use Rattle.fly_docs.specs.declared.closure.Connections.{Connections}
+use Rattle.fly_docs.specs.declared.closure.Closure.{Closure}
+use Rattle.fly_docs.specs.Closures.{task_of}
+use Rattle.fly_app.specs.Json.{message, optional_message, optional_text, optional_list, optional_map}
+
+-- Identifier, with the resource type that its place gives it
+abbrev pub identifier_json : List ℕ → Identifier → Data
+identifier_json resource i = message (
+    (codes "resourceType", Some (string resource)) ∷
+    (codes "project", optional_text i.project) ∷
+    (codes "domain", optional_text i.domain) ∷
+    (codes "name", Some (string i.name)) ∷
+    (codes "version", optional_text i.version) ∷ [])
+
+abbrev pub task_id_json : Identifier → Data
+task_id_json i = identifier_json (codes "TASK") i
+
+abbrev pub workflow_id_json : Identifier → Data
+workflow_id_json i = identifier_json (codes "WORKFLOW") i
+
+-- Variable, of the type INTEGER
+abbrev pub variable_json : Data
+variable_json = message ((codes "type", Some (message ((codes "simple", Some (string (codes "INTEGER"))) ∷ []))) ∷ [])
+
+-- VariableMap
+abbrev pub variables_json : List Variable → Option Data
+variables_json vs = optional_message ((codes "variables", optional_map (map (λ (v : Variable). (v.name, variable_json)) vs)) ∷ [])
+
+-- TypedInterface
+abbrev pub interface_json : Interface → Option Data
+interface_json i = optional_message (
+    (codes "inputs", variables_json i.inputs) ∷
+    (codes "outputs", variables_json i.outputs) ∷ [])
+
+-- BindingData
+abbrev pub bound_json : Bound → Data
+bound_json (Promise node var) = message ((codes "promise", Some (message (
+    (codes "nodeId", Some (string node)) ∷
+    (codes "var", Some (string var)) ∷ []))) ∷ [])
+
+-- Binding
+abbrev pub binding_json : Binding → Data
+binding_json b = message (
+    (codes "var", Some (string b.var)) ∷
+    (codes "binding", Some (bound_json b.bound)) ∷ [])
+
+-- TaskTemplate
+abbrev pub task_json : Task → Data
+task_json t = message (
+    (codes "id", Some (task_id_json t.id)) ∷
+    (codes "interface", interface_json t.interface) ∷
+    (codes "container", Some (message ((codes "command", optional_list (map string t.command)) ∷ []))) ∷ [])
+
+-- Node, with its TaskNode
+abbrev pub node_json : Node → Data
+node_json n = message (
+    (codes "id", Some (string n.id)) ∷
+    (codes "inputs", optional_list (map binding_json n.inputs)) ∷
+    (codes "taskNode", Some (message ((codes "referenceId", Some (task_id_json (task_of n.target))) ∷ []))) ∷ [])
+
+-- WorkflowTemplate
+abbrev pub workflow_json : Workflow → Data
+workflow_json w = message (
+    (codes "id", Some (workflow_id_json w.id)) ∷
+    (codes "interface", interface_json w.interface) ∷
+    (codes "nodes", optional_list (map node_json w.nodes)) ∷
+    (codes "outputs", optional_list (map binding_json w.outputs)) ∷ [])
+
+-- the bundle, with the id of its primary workflow
+abbrev pub bundle_json : Bundle → Data
+bundle_json b = message (
+    (codes "tasks", optional_list (map task_json b.tasks)) ∷
+    (codes "workflows", optional_list (map workflow_json b.workflows)) ∷
+    (codes "primary", Some (workflow_id_json b.primary)) ∷ [])
+
+-- ConnectionSet, whose lists are IdList
+abbrev pub id_lists_json : List (List ℕ × List (List ℕ)) → Option Data
+id_lists_json lists = optional_map (map (λ l. (l.0, message ((codes "ids", optional_list (map string l.1)) ∷ []))) lists)
+
+abbrev pub connections_json : Connections → Option Data
+connections_json c = optional_message (
+    (codes "upstream", id_lists_json c.upstream) ∷
+    (codes "downstream", id_lists_json c.downstream) ∷ [])
+
+-- CompiledWorkflow
+abbrev pub compiled_workflow_json : Workflow → Connections → Data
+compiled_workflow_json w c = message (
+    (codes "template", Some (workflow_json w)) ∷
+    (codes "connections", connections_json c) ∷ [])
+
+-- CompiledTask
+abbrev pub compiled_task_json : Task → Data
+compiled_task_json t = message ((codes "template", Some (task_json t)) ∷ [])
+
+-- the primary workflow and then the others, each with its connections
+abbrev pub compiled_workflows : Closure → List Data
+compiled_workflows c = map (λ (p : Workflow × Connections). compiled_workflow_json p.0 p.1) (zip (c.primary ∷ c.subs) c.connections)
+
+-- CompiledWorkflowClosure
+abbrev pub closure_json : Closure → Data
+closure_json c = message (
+    (codes "primary", slice_get (compiled_workflows c) 0) ∷
+    (codes "subWorkflows", optional_list (drop 1 (compiled_workflows c))) ∷
+    (codes "tasks", optional_list (map compiled_task_json c.tasks)) ∷ [])
+
+-- the text of a closure
+abbrev pub closure_text : Closure → List ℕ
+closure_text c = compact_text (closure_json c)
