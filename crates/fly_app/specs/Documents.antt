@@ -1,5 +1,5 @@
 -- The JSON of bundles and closures whose tasks have no metadata and whose variables are all INTEGER.
-use Rattle.std.specs.Prelude.{ℕ, List, [], ◌∷◌, map, drop, slice_get, Option, Some, None, codes}
+use Rattle.std.specs.Prelude.{ℕ, List, [], ◌∷◌, map, drop, slice_get, Option, option_map, Some, None, codes}
 use Rattle.std.specs.List.{zip}
 use Rattle.serde_json.specs.Written.{compact_text}
 use Rattle.serde_json.specs.Data.{Data, string}
@@ -89,8 +89,11 @@ bundle_json b = message (
     (codes "primary", Some (workflow_id_json b.primary)) ∷ [])
 
 -- ConnectionSet, whose lists are IdList
+abbrev pub id_list_entry : List ℕ × List (List ℕ) → List ℕ × Data
+id_list_entry l = (l.0, message ((codes "ids", optional_list (map string l.1)) ∷ []))
+
 abbrev pub id_lists_json : List (List ℕ × List (List ℕ)) → Option Data
-id_lists_json lists = optional_map (map (λ l. (l.0, message ((codes "ids", optional_list (map string l.1)) ∷ []))) lists)
+id_lists_json lists = optional_map (map id_list_entry lists)
 
 abbrev pub connections_json : Connections → Option Data
 connections_json c = optional_message (
@@ -107,15 +110,15 @@ compiled_workflow_json w c = message (
 abbrev pub compiled_task_json : Task → Data
 compiled_task_json t = message ((codes "template", Some (task_json t)) ∷ [])
 
--- the primary workflow and then the others, each with its connections
-abbrev pub compiled_workflows : Closure → List Data
-compiled_workflows c = map (λ (p : Workflow × Connections). compiled_workflow_json p.0 p.1) (zip (c.primary ∷ c.subs) c.connections)
+-- each workflow with its connections
+abbrev pub compiled_workflows : List Workflow → List Connections → List Data
+compiled_workflows ws cs = map (λ (p : Workflow × Connections). compiled_workflow_json p.0 p.1) (zip ws cs)
 
--- CompiledWorkflowClosure
+-- CompiledWorkflowClosure. The first connections are the primary workflow's.
 abbrev pub closure_json : Closure → Data
 closure_json c = message (
-    (codes "primary", slice_get (compiled_workflows c) 0) ∷
-    (codes "subWorkflows", optional_list (drop 1 (compiled_workflows c))) ∷
+    (codes "primary", option_map (compiled_workflow_json c.primary) (slice_get c.connections 0)) ∷
+    (codes "subWorkflows", optional_list (compiled_workflows c.subs (drop 1 c.connections))) ∷
     (codes "tasks", optional_list (map compiled_task_json c.tasks)) ∷ [])
 
 -- the text of a closure

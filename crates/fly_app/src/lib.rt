@@ -1,5 +1,6 @@
 //! The commands of `flyte`, and the top call that runs one.
 #![tactic(auto)]
 
+mod documents;
 mod faults;
 mod message;

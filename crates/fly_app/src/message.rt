@@ -78,10 +78,17 @@ pub fn optional_list_json<T: ToJson>(
     for item in items {
         values.push(item.to_json(alloc)?)?;
     }
+    Ok(list_value(values))
+}
+
+/// A list of values, which is left out where it is empty.
+pub fn list_value(values: Vec<Value>) -> Option<Value>
+    ensures { option_map view result ≡ optional_list (map view values.items) }
+{
     if values.is_empty() {
-        Ok(None)
+        None
     } else {
-        Ok(Some(Value::Array(values)))
+        Some(Value::Array(values))
     }
 }
 
