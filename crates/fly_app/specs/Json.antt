@@ -3,17 +3,21 @@ use Rattle.std.specs.Prelude.{ℕ, List, [], ◌∷◌, map, Option, Some, None}
 use Rattle.serde_json.specs.Data.{Data, string, array, object, Members, no_members, member, put}
 use Rattle.serde_json.specs.View.{items_of}
 
+-- the fields of a message, each under its name where it is there
+abbrev pub Fields : Type 0
+Fields = List (List ℕ × Option Data)
+
 -- the members with one more, where it is there
 abbrev pub with_field : Members → List ℕ → Option Data → Members
 with_field ms key None = ms
 with_field ms key (Some d) = put key d ms
 
-abbrev pub with_fields : Members → List (List ℕ × Option Data) → Members
+abbrev pub with_fields : Members → Fields → Members
 with_fields ms [] = ms
 with_fields ms (f ∷ fs) = with_fields (with_field ms f.0 f.1) fs
 
--- a message that has these fields, each under its name
-abbrev pub message : List (List ℕ × Option Data) → Data
+-- a message that has these fields
+abbrev pub message : Fields → Data
 message fs = object (with_fields no_members fs)
 
 -- a message that is left out where all its fields are
@@ -21,7 +25,7 @@ abbrev pub unless_empty : Members → Option Data
 unless_empty no_members = None
 unless_empty (member k d ms) = Some (object (member k d ms))
 
-abbrev pub optional_message : List (List ℕ × Option Data) → Option Data
+abbrev pub optional_message : Fields → Option Data
 optional_message fs = unless_empty (with_fields no_members fs)
 
 -- a text, unless it is empty
@@ -35,7 +39,7 @@ optional_list [] = None
 optional_list (d ∷ ds) = Some (array (items_of (d ∷ ds)))
 
 -- the entries of a map, as fields that are there
-abbrev pub as_fields : List (List ℕ × Data) → List (List ℕ × Option Data)
+abbrev pub as_fields : List (List ℕ × Data) → Fields
 as_fields entries = map (λ e. (e.0, Some e.1)) entries
 
 -- a map, unless it is empty

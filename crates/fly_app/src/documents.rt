@@ -3,7 +3,7 @@ ghost use Rattle.std.specs.Prelude.{◌≡◌, [], ◌∷◌, IfOk, option_map, 
 ghost use Rattle.serde_json.specs.Data.{string};
 ghost use Rattle.serde_json.specs.View.{view};
 ghost use Rattle.fly_app.specs.Json.{message, optional_list};
-ghost use Rattle.fly_app.specs.Documents.{identifier_json, task_id_json, workflow_id_json, variable_json, variables_json, interface_json, bound_json, binding_json, task_json, node_json, workflow_json, bundle_json, id_list_entry, connections_json, compiled_workflow_json, compiled_workflows, compiled_task_json, closure_json};
+ghost use Rattle.fly_app.specs.Documents.{identifier_json, task_id_json, workflow_id_json, variable_entry, variables_json, interface_json, bound_json, binding_json, task_json, node_json, workflow_json, bundle_json, id_list_entry, connections_json, compiled_workflow_json, compiled_workflows, compiled_task_json, closure_json};
 
 use crate::message::{
     ToEntry, ToJson, add, list_value, optional_list_json, optional_map_json, optional_message_json,
@@ -55,7 +55,7 @@ fn message_of(alloc: Global, name: &str, value: Option<Value>) -> Result<Value, 
 }
 
 impl ToEntry for Variable {
-    ghost entry = { λ v. (v.name, variable_json) };
+    ghost entry = { variable_entry };
 
     fn key(&self) -> &str {
         self.name.as_str()

@@ -4,3 +4,4 @@
 mod documents;
 mod faults;
 mod message;
+mod write_closure;
