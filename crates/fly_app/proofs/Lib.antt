@@ -1,2 +1,3 @@
+mod Closed
 mod Floats
 mod Messages

@@ -1,4 +1,5 @@
 pub mod Json
 pub mod Documents
 pub mod FirstForm
+pub mod FirstClosure
 pub mod Reading
