@@ -1,0 +1,24 @@
+//! The traits of the outside: files, sinks, processes, a clock and a gate, with implementations in
+//! memory and adapters over the real things.
+#![tactic(auto)]
+
+mod clock;
+mod faults;
+mod files;
+mod gate;
+mod memory_files;
+mod memory_sink;
+mod room;
+mod sink;
+mod spawner;
+mod system;
+
+pub use clock::Clock;
+pub use faults::{ReadFault, SpawnFault, WriteFault};
+pub use files::Files;
+pub use gate::{Gate, Hand, OpenGate, Point};
+pub use memory_files::{MemFile, MemFiles};
+pub use memory_sink::MemSink;
+pub use sink::Sink;
+pub use spawner::{Ended, MAX_OUTPUT, Run, Spawner};
+pub use system::{OsFiles, OsSink};

@@ -1,0 +1,89 @@
+ghost use Rattle.std.specs.Prelude.{◌≡◌, OnOk, OnErr, IfOk, is_ok, Some};
+ghost use Rattle.std.specs.Io.KnownBytes.{append_known};
+ghost use Rattle.fly_ports.specs.Faults.{HasCause};
+ghost use Rattle.fly_ports.specs.Written.{WritesPart};
+
+use crate::room::add_within;
+use crate::{Sink, WriteFault};
+use fly_types::{List, NoMemory};
+use std::alloc::Global;
+use std::marker::Model;
+
+/// A sink in memory, with room for a stated number of bytes in all.
+#[derive(Debug, Drop)]
+pub struct MemSink {
+    written: Vec<u8>,
+    room: u64,
+    bad: List<u64>,
+    calls: u64,
+    faults: u64,
+}
+
+impl Model for MemSink {
+    ghost use Rattle.std.specs.Prelude.{◌≤◌, vec_capacity};
+    ghost use Rattle.fly_ports.specs.SinkMemory.{SinkMemory};
+
+    ghost Value = { SinkMemory };
+
+    ghost view = { λ s. record { written = s.written.items; room = s.room; bad = s.bad; calls = s.calls; faults = s.faults } };
+
+    ghost invariant = { λ s. s.room ≤ vec_capacity s.written };
+}
+
+impl MemSink {
+    ghost use Rattle.fly_ports.specs.SinkMemory.{new_sink};
+
+    /// An empty sink. The calls of `put` whose numbers, from 1, are in `bad` fail and write nothing.
+    /// A call that goes past the room writes what there is room for, and fails.
+    pub fn make(alloc: Global, room: u64, bad: List<u64>) -> Result<MemSink, NoMemory>
+        ensures { IfOk result (λ sink. sink ≡ new_sink room bad) }
+    {
+        let written = Vec::with_capacity(alloc, room as usize)?;
+        Ok(MemSink {
+            written,
+            room,
+            bad,
+            calls: 0,
+            faults: 0,
+        })
+    }
+
+    /// All that was written.
+    pub fn bytes(&self) -> &[u8]
+        ensures { result.now ≡ self.now.written }
+    {
+        &self.written
+    }
+
+    /// How many calls have failed.
+    pub fn faults(&self) -> u64
+        ensures { result ≡ self.now.faults }
+    {
+        self.faults
+    }
+}
+
+impl Sink for MemSink {
+    ghost use Rattle.fly_ports.specs.SinkMemory.{takes_all, after_put};
+
+    ghost written = { λ s. Some s.written };
+
+    ghost faults = { λ s. s.faults };
+
+    fn put(&mut self, bytes: &[u8]) -> Result<(), WriteFault>
+        ensures written { OnOk result (Some self.new.written ≡ append_known (Some self.old.written) bytes.now) }
+        ensures partial { OnErr result (WritesPart (Some self.old.written) (Some self.new.written) bytes.now) }
+        ensures cause { HasCause self.old.faults self.new.faults result }
+        ensures answer { is_ok result ≡ takes_all self.old bytes.now }
+        ensures state { self.new ≡ after_put self.old bytes.now }
+    {
+        self.calls = self.calls.saturating_add(1);
+        let is_bad = self.bad.as_slice().contains(&self.calls);
+        if !is_bad && add_within(&mut self.written, self.room, bytes) {
+            Ok(())
+        } else {
+            self.faults = self.faults.saturating_add(1);
+            Err(WriteFault::Failed)
+        }
+    }
+}
