@@ -1,3 +1,5 @@
 mod Closed
+mod CommandLines
+mod FileReads
 mod Floats
 mod Messages

@@ -3,3 +3,6 @@ pub mod Documents
 pub mod FirstForm
 pub mod FirstClosure
 pub mod Reading
+pub mod Commands
+pub mod Answers
+pub mod Stops

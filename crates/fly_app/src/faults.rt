@@ -1,7 +1,7 @@
-ghost use Rattle.std.specs.Prelude.{◌≡◌, [], codes};
+use fly_types::Text;
 
-use fly_types::{NoMemory, Text};
-use std::alloc::Global;
+/// The most bytes that a document may have.
+pub const DOCUMENT_LIMIT: u64 = 16 * 1024 * 1024;
 
 /// Why a document was not read.
 #[derive(Clone, Copy, Debug, PartialEq, Eq)]
