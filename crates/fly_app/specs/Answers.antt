@@ -1,5 +1,5 @@
 -- What a command answers, and what it prints.
-use Rattle.std.specs.Prelude.{◌≡◌, ◌≢◌, ◌⊎◌, ℕ, List, [], ◌∷◌, ◌++◌, Option, Some, IfSome, codes, decimal}
+use Rattle.std.specs.Prelude.{◌≡◌, ◌≢◌, ◌⊎◌, ℕ, List, [], ◌∷◌, ◌++◌, Option, Some, None, IfSome, codes, decimal}
 use Rattle.std.specs.Io.KnownBytes.{append_known}
 use Rattle.fly_ports.specs.Contents.{Contents, Lacks}
 use Rattle.fly_ports.specs.Faults.{Rose}
@@ -38,6 +38,13 @@ unread_text path = codes "cannot read " ++ path ++ newline
 -- the file at the path, where contents are told
 abbrev pub IsContent : Option Contents → List ℕ → List ℕ → Type 0
 IsContent told path file = IfSome told (λ held. held path ≡ Some file)
+
+-- contents are told, and there is this file at the path; there is none
+abbrev pub IsThere : Option Contents → List ℕ → List ℕ → Type 0
+IsThere told path file = (held : Contents) × (told ≡ Some held) × (held path ≡ Some file)
+
+abbrev pub IsAbsent : Option Contents → List ℕ → Type 0
+IsAbsent told path = (held : Contents) × (told ≡ Some held) × (held path ≡ None)
 
 -- the sink got this text
 abbrev pub Gets : Option (List ℕ) → Option (List ℕ) → List ℕ → Type 0

@@ -2,13 +2,17 @@
 #![tactic(auto)]
 
 mod closure_of_file;
+mod commands;
 mod compile;
 mod documents;
 mod faults;
 mod message;
+
+mod printing;
 mod read_bundle;
 mod status;
 mod words;
 mod write_closure;
 
+pub use commands::plain;
 pub use status::Status;
