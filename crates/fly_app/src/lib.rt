@@ -7,12 +7,13 @@ mod compile;
 mod documents;
 mod faults;
 mod message;
-
 mod printing;
 mod read_bundle;
 mod status;
+mod top;
 mod words;
 mod write_closure;
 
 pub use commands::plain;
 pub use status::Status;
+pub use top::flyte;

@@ -1,0 +1,99 @@
+ghost use Rattle.std.specs.Prelude.{◌≡◌, ◌≢◌, ◌≤◌, ◌⊎◌, ℕ, List};
+ghost use Rattle.fly_ports.specs.Faults.{Rose};
+ghost use Rattle.fly_docs.specs.declared.workflow.Bundle.{Bundle};
+ghost use Rattle.fly_app.specs.declared.faults.DocKind.{DocKind};
+ghost use Rattle.fly_app.specs.Commands.{IsCompile, IsFirstWrong};
+ghost use Rattle.fly_app.specs.Reading.{Reads, FirstFault};
+ghost use Rattle.fly_app.specs.Answers.{Compiles, Refuses, IsUnread, Gets, GetsPart, IsThere, IsAbsent, usage_text, refusal_text, unread_text};
+
+use crate::{Status, plain};
+use fly_ports::{Clock, Files, Gate, Hand, Sink, Spawner};
+use fly_types::Text;
+use std::alloc::Global;
+use std::sync::Wait;
+use std::thread::Threads;
+
+/// The whole program: runs the command that the words of the command line are, and answers its exit status. What
+/// it prints goes to `out`, and why there is nothing to print to `err`. The crew are the hands of the workers,
+/// which no command uses yet.
+pub fn flyte<
+    R: Threads + Wait + Sync,
+    F: Files,
+    O: Sink,
+    E: Sink,
+    S: Spawner + Send,
+    C: Clock + Send,
+    G: Gate + Send,
+>(
+    rt: &R,
+    alloc: Global,
+    words: &[Text],
+    files: &mut F,
+    out: &mut O,
+    err: &mut E,
+    crew: &mut Vec<Hand<S, C, G>>,
+) -> Status
+    // The answer was printed.
+    ensures done { result ≡ Status.Done → (text : List ℕ) × Compiles (F.contents files.old) words.now text
+        × Gets (O.written out.old) (O.written out.new) text }
+    ensures done_silent { result ≡ Status.Done → E.written err.new ≡ E.written err.old }
+
+    // The words are no command.
+    ensures usage { result ≡ Status.Usage → (k : ℕ) × IsFirstWrong words.now k
+        × Gets (E.written err.old) (E.written err.new) (usage_text k) }
+
+    // The document has a fault.
+    ensures refused { result ≡ Status.Refused → (kind : DocKind) × Refuses (F.contents files.old) words.now kind
+        × Gets (E.written err.old) (E.written err.new) (refusal_text kind) }
+
+    // The file was not read.
+    ensures unread { result ≡ Status.ReadFault → (path : List ℕ) × IsCompile words.now path
+        × IsUnread (F.contents files.old) path (F.read_faults files.old) (F.read_faults files.new)
+        × Gets (E.written err.old) (E.written err.new) (unread_text path) }
+
+    // An answer was not written.
+    ensures unwritten { result ≡ Status.WriteFault
+        → Rose (O.faults out.old) (O.faults out.new) ⊎ Rose (E.faults err.old) (E.faults err.new) }
+
+    // No other answer is given but want of memory.
+    ensures others { (result ≢ Status.Failed) × (result ≢ Status.Damaged) }
+
+    // Nothing but the answer is printed.
+    ensures out_silent { (result ≡ Status.Usage) ⊎ (result ≡ Status.Refused) ⊎ (result ≡ Status.ReadFault)
+        → O.written out.new ≡ O.written out.old }
+    ensures out_part { (result ≡ Status.WriteFault) ⊎ (result ≡ Status.NoMemory)
+        → GetsPart (F.contents files.old) words.now (O.written out.old) (O.written out.new) }
+
+    // The files stay as they are.
+    ensures contents { F.contents files.new ≡ F.contents files.old }
+    ensures appends { F.append_faults files.new ≡ F.append_faults files.old }
+
+    // No count of faults falls.
+    ensures reads_later { F.read_faults files.old ≤ F.read_faults files.new }
+    ensures out_later { O.faults out.old ≤ O.faults out.new }
+    ensures err_later { E.faults err.old ≤ E.faults err.new }
+
+    // Each answer is given wherever its cause is the first, unless memory is wanting, or it can't be printed.
+    ensures usage_where { (k : ℕ) → IsFirstWrong words.now k
+        → (result ≡ Status.Usage) ⊎ (result ≡ Status.WriteFault) ⊎ (result ≡ Status.NoMemory) }
+    ensures unread_where { (path : List ℕ) → IsCompile words.now path → IsAbsent (F.contents files.old) path
+        → (result ≡ Status.ReadFault) ⊎ (result ≡ Status.WriteFault) ⊎ (result ≡ Status.NoMemory) }
+    ensures refused_where { (path file : List ℕ) (kind : DocKind) → IsCompile words.now path
+        → IsThere (F.contents files.old) path file → FirstFault file kind → kind ≢ DocKind.NoMemory
+        → (Rose (F.read_faults files.old) (F.read_faults files.new) → ⊥)
+        → (result ≡ Status.Refused) ⊎ (result ≡ Status.WriteFault) ⊎ (result ≡ Status.NoMemory) }
+
+    // Where the words are a command, the file is there and can be read, and nothing fails, the closure is printed.
+    ensures complete { (path file : List ℕ) (b : Bundle) → IsCompile words.now path
+        → IsThere (F.contents files.old) path file → Reads file b
+        → (Rose (F.read_faults files.old) (F.read_faults files.new) → ⊥)
+        → (Rose (O.faults out.old) (O.faults out.new) → ⊥)
+        → (Rose (E.faults err.old) (E.faults err.new) → ⊥)
+        → (result ≡ Status.Done) ⊎ (result ≡ Status.NoMemory) }
+
+    // No hand of the crew does anything.
+    ensures crew { crew.new ≡ crew.old }
+{
+    let _ = crew;
+    plain(rt, alloc, words, files, out, err)
+}
