@@ -1,8 +1,11 @@
 pub mod Answers
+pub mod ClockMemory
 pub mod Contents
 pub mod Faults
 pub mod FilesMemory
+pub mod Parts
 pub mod Runs
 pub mod SinkMemory
+pub mod SpawnerMemory
 pub mod System
 pub mod Written

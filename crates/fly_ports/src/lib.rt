@@ -6,19 +6,25 @@ mod clock;
 mod faults;
 mod files;
 mod gate;
+mod list_clock;
 mod memory_files;
 mod memory_sink;
 mod room;
 mod sink;
 mod spawner;
 mod system;
+mod table_spawner;
+#[cfg(test)]
+mod tests;
 
 pub use clock::Clock;
 pub use faults::{ReadFault, SpawnFault, WriteFault};
 pub use files::Files;
 pub use gate::{Gate, Hand, OpenGate, Point};
+pub use list_clock::ListClock;
 pub use memory_files::{MemFile, MemFiles};
 pub use memory_sink::MemSink;
 pub use sink::Sink;
 pub use spawner::{Ended, MAX_OUTPUT, Run, Spawner};
 pub use system::{OsFiles, OsSink};
+pub use table_spawner::TableSpawner;

@@ -16,3 +16,15 @@ pub(crate) fn add_within(held: &mut Vec<u8>, room: u64, bytes: &[u8]) -> bool
         false
     }
 }
+
+/// The first bytes, as many as asked or all.
+pub(crate) fn front(bytes: &[u8], most: usize) -> &[u8]
+    ensures bytes { result.now ≡ take most bytes.now }
+    ensures bound { length result.now ≤ most }
+{
+    if most < bytes.len() {
+        &bytes[..most]
+    } else {
+        bytes
+    }
+}

@@ -29,6 +29,20 @@ impl<'r, R: rt::Files> OsFiles<'r, R> {
             append_faults: 0,
         }
     }
+
+    /// How many reads have failed.
+    pub fn read_faults(&self) -> u64
+        ensures { result ≡ read_faults self.now }
+    {
+        self.read_faults
+    }
+
+    /// How many appends have failed.
+    pub fn append_faults(&self) -> u64
+        ensures { result ≡ append_faults self.now }
+    {
+        self.append_faults
+    }
 }
 
 fn read_fault(error: &io::Error) -> ReadFault {
@@ -118,6 +132,20 @@ impl<W: Write> OsSink<W> {
             writer: inner,
             faults: 0,
         }
+    }
+
+    /// The writer below.
+    pub fn writer(&self) -> &W
+        ensures { result.now ≡ writer self.now }
+    {
+        &self.writer
+    }
+
+    /// How many writes have failed.
+    pub fn faults(&self) -> u64
+        ensures { result ≡ faults self.now }
+    {
+        self.faults
     }
 }
 

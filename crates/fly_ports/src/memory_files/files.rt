@@ -69,7 +69,7 @@ fn add(files: &mut Vec<Slot>, path: &str, bytes: &[u8]) -> bool
 }
 
 /// The first `limit + 1` bytes of a content, or all of them where there are fewer.
-fn front(content: &[u8], limit: u64) -> &[u8]
+fn front_past(content: &[u8], limit: u64) -> &[u8]
     ensures { result.now ≡ take (limit + 1) content.now }
 {
     if limit < content.len() as u64 {
@@ -156,7 +156,7 @@ impl Files for MemFiles {
             self.reads = number;
             return Err(ReadFault::Absent);
         };
-        let Ok(bytes) = Vec::from_slice(alloc, front(content, limit)) else {
+        let Ok(bytes) = Vec::from_slice(alloc, front_past(content, limit)) else {
             return Err(ReadFault::NoMemory);
         };
         self.reads = number;
