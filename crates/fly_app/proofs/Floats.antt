@@ -152,6 +152,10 @@ primary-no_float w (Some c) = compiled_workflow-no_float w c
 -- the closure's JSON has no float
 pub closure_no_float : (c : Closure) → has_float (closure_json c) ≡ false
 closure_no_float c =
-    message-no_float (closure_fields c) (primary-no_float c.primary (slice_get c.connections 0),
-        (list-no_float (λ (p : Workflow × Connections). compiled_workflow_json p.0 p.1) (λ p. compiled_workflow-no_float p.0 p.1) (zip c.subs (drop 1 c.connections)),
-        (list-no_float compiled_task_json compiled_task-no_float c.tasks, tt)))
+    message-no_float (closure_fields c) (
+      primary-no_float c.primary (slice_get c.connections 0),
+      (
+        list-no_float (λ (p : Workflow × Connections). compiled_workflow_json p.0 p.1) (λ p. compiled_workflow-no_float p.0 p.1) (zip c.subs (drop 1 c.connections)),
+        (list-no_float compiled_task_json compiled_task-no_float c.tasks, tt),
+      ),
+    )

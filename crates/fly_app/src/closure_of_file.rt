@@ -60,11 +60,7 @@ fn stop_of(kind: DocKind) -> Stop
 }
 
 /// The text of the closure of the bundle in a file, with a newline.
-pub fn closure_of_file<F: Files>(
-    alloc: Global,
-    files: &mut F,
-    path: &str,
-) -> Result<Vec<u8>, Stop>
+pub fn closure_of_file<F: Files>(alloc: Global, files: &mut F, path: &str) -> Result<Vec<u8>, Stop>
     ensures text { IfOk result (λ text. HasClosure (F.contents files.old) path.now text.items) }
     ensures stop { IfErr result
         (StopsAt (F.contents files.old) path.now (F.read_faults files.old) (F.read_faults files.new)) }

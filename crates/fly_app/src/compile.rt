@@ -62,8 +62,16 @@ fn alone(alloc: Global, id: &str) -> Result<Connections, NoMemory>
     ensures upstream { IfOk result (λ c. c.upstream ≡ (alone_connections id.now).upstream) }
     ensures downstream { IfOk result (λ c. c.downstream ≡ (alone_connections id.now).downstream) }
 {
-    let upstream = in_order(alloc, beside(alloc, END_NODE, id)?, beside(alloc, id, START_NODE)?)?;
-    let downstream = in_order(alloc, beside(alloc, START_NODE, id)?, beside(alloc, id, END_NODE)?)?;
+    let upstream = in_order(
+        alloc,
+        beside(alloc, END_NODE, id)?,
+        beside(alloc, id, START_NODE)?,
+    )?;
+    let downstream = in_order(
+        alloc,
+        beside(alloc, START_NODE, id)?,
+        beside(alloc, id, END_NODE)?,
+    )?;
     Ok(Connections {
         upstream,
         downstream,

@@ -17,19 +17,40 @@ use fly_types::{List, NoMemory, Text, Variable};
 use serde_json::{Map, Value};
 use std::alloc::Global;
 
-fn identifier_value(
-    alloc: Global,
-    resource: &str,
-    id: &Identifier,
-) -> Result<Value, NoMemory>
+fn identifier_value(alloc: Global, resource: &str, id: &Identifier) -> Result<Value, NoMemory>
     ensures { IfOk result (λ v. view v ≡ identifier_json resource.now id.now) }
 {
     let mut fields = Map::new(alloc);
-    add(&mut fields, alloc, "resourceType", Some(text_json(alloc, resource)?))?;
-    add(&mut fields, alloc, "project", optional_text_json(alloc, id.project.as_str())?)?;
-    add(&mut fields, alloc, "domain", optional_text_json(alloc, id.domain.as_str())?)?;
-    add(&mut fields, alloc, "name", Some(text_json(alloc, id.name.as_str())?))?;
-    add(&mut fields, alloc, "version", optional_text_json(alloc, id.version.as_str())?)?;
+    add(
+        &mut fields,
+        alloc,
+        "resourceType",
+        Some(text_json(alloc, resource)?),
+    )?;
+    add(
+        &mut fields,
+        alloc,
+        "project",
+        optional_text_json(alloc, id.project.as_str())?,
+    )?;
+    add(
+        &mut fields,
+        alloc,
+        "domain",
+        optional_text_json(alloc, id.domain.as_str())?,
+    )?;
+    add(
+        &mut fields,
+        alloc,
+        "name",
+        Some(text_json(alloc, id.name.as_str())?),
+    )?;
+    add(
+        &mut fields,
+        alloc,
+        "version",
+        optional_text_json(alloc, id.version.as_str())?,
+    )?;
     Ok(Value::Object(fields))
 }
 
@@ -72,7 +93,12 @@ fn variables_value(alloc: Global, variables: &[Variable]) -> Result<Option<Value
     ensures { IfOk result (λ o. option_map view o ≡ variables_json variables.now) }
 {
     let mut fields = Map::new(alloc);
-    add(&mut fields, alloc, "variables", optional_map_json(alloc, variables)?)?;
+    add(
+        &mut fields,
+        alloc,
+        "variables",
+        optional_map_json(alloc, variables)?,
+    )?;
     Ok(optional_message_json(fields))
 }
 
@@ -80,8 +106,18 @@ fn interface_value(alloc: Global, interface: &Interface) -> Result<Option<Value>
     ensures { IfOk result (λ o. option_map view o ≡ interface_json interface.now) }
 {
     let mut fields = Map::new(alloc);
-    add(&mut fields, alloc, "inputs", variables_value(alloc, interface.inputs.as_slice())?)?;
-    add(&mut fields, alloc, "outputs", variables_value(alloc, interface.outputs.as_slice())?)?;
+    add(
+        &mut fields,
+        alloc,
+        "inputs",
+        variables_value(alloc, interface.inputs.as_slice())?,
+    )?;
+    add(
+        &mut fields,
+        alloc,
+        "outputs",
+        variables_value(alloc, interface.outputs.as_slice())?,
+    )?;
     Ok(optional_message_json(fields))
 }
 
@@ -91,8 +127,18 @@ impl ToJson for Bound {
     fn to_json(&self, alloc: Global) -> Result<Value, NoMemory> {
         let Bound::Promise { node, var } = self;
         let mut fields = Map::new(alloc);
-        add(&mut fields, alloc, "nodeId", Some(text_json(alloc, node.as_str())?))?;
-        add(&mut fields, alloc, "var", Some(text_json(alloc, var.as_str())?))?;
+        add(
+            &mut fields,
+            alloc,
+            "nodeId",
+            Some(text_json(alloc, node.as_str())?),
+        )?;
+        add(
+            &mut fields,
+            alloc,
+            "var",
+            Some(text_json(alloc, var.as_str())?),
+        )?;
         message_of(alloc, "promise", Some(Value::Object(fields)))
     }
 }
@@ -102,8 +148,18 @@ impl ToJson for Binding {
 
     fn to_json(&self, alloc: Global) -> Result<Value, NoMemory> {
         let mut fields = Map::new(alloc);
-        add(&mut fields, alloc, "var", Some(text_json(alloc, self.var.as_str())?))?;
-        add(&mut fields, alloc, "binding", Some(self.bound.to_json(alloc)?))?;
+        add(
+            &mut fields,
+            alloc,
+            "var",
+            Some(text_json(alloc, self.var.as_str())?),
+        )?;
+        add(
+            &mut fields,
+            alloc,
+            "binding",
+            Some(self.bound.to_json(alloc)?),
+        )?;
         Ok(Value::Object(fields))
     }
 }
@@ -115,8 +171,18 @@ impl ToJson for Task {
         let command = optional_list_json(alloc, self.command.as_slice())?;
         let container = message_of(alloc, "command", command)?;
         let mut fields = Map::new(alloc);
-        add(&mut fields, alloc, "id", Some(task_id_value(alloc, &self.id)?))?;
-        add(&mut fields, alloc, "interface", interface_value(alloc, &self.interface)?)?;
+        add(
+            &mut fields,
+            alloc,
+            "id",
+            Some(task_id_value(alloc, &self.id)?),
+        )?;
+        add(
+            &mut fields,
+            alloc,
+            "interface",
+            interface_value(alloc, &self.interface)?,
+        )?;
         add(&mut fields, alloc, "container", Some(container))?;
         Ok(Value::Object(fields))
     }
@@ -129,9 +195,24 @@ impl ToJson for Node {
         let Target::Task(task) = &self.target;
         let reference = Some(task_id_value(alloc, task)?);
         let mut fields = Map::new(alloc);
-        add(&mut fields, alloc, "id", Some(text_json(alloc, self.id.as_str())?))?;
-        add(&mut fields, alloc, "inputs", optional_list_json(alloc, self.inputs.as_slice())?)?;
-        add(&mut fields, alloc, "taskNode", Some(message_of(alloc, "referenceId", reference)?))?;
+        add(
+            &mut fields,
+            alloc,
+            "id",
+            Some(text_json(alloc, self.id.as_str())?),
+        )?;
+        add(
+            &mut fields,
+            alloc,
+            "inputs",
+            optional_list_json(alloc, self.inputs.as_slice())?,
+        )?;
+        add(
+            &mut fields,
+            alloc,
+            "taskNode",
+            Some(message_of(alloc, "referenceId", reference)?),
+        )?;
         Ok(Value::Object(fields))
     }
 }
@@ -141,10 +222,30 @@ impl ToJson for Workflow {
 
     fn to_json(&self, alloc: Global) -> Result<Value, NoMemory> {
         let mut fields = Map::new(alloc);
-        add(&mut fields, alloc, "id", Some(workflow_id_value(alloc, &self.id)?))?;
-        add(&mut fields, alloc, "interface", interface_value(alloc, &self.interface)?)?;
-        add(&mut fields, alloc, "nodes", optional_list_json(alloc, self.nodes.as_slice())?)?;
-        add(&mut fields, alloc, "outputs", optional_list_json(alloc, self.outputs.as_slice())?)?;
+        add(
+            &mut fields,
+            alloc,
+            "id",
+            Some(workflow_id_value(alloc, &self.id)?),
+        )?;
+        add(
+            &mut fields,
+            alloc,
+            "interface",
+            interface_value(alloc, &self.interface)?,
+        )?;
+        add(
+            &mut fields,
+            alloc,
+            "nodes",
+            optional_list_json(alloc, self.nodes.as_slice())?,
+        )?;
+        add(
+            &mut fields,
+            alloc,
+            "outputs",
+            optional_list_json(alloc, self.outputs.as_slice())?,
+        )?;
         Ok(Value::Object(fields))
     }
 }
@@ -153,9 +254,24 @@ pub fn bundle_value(alloc: Global, bundle: &Bundle) -> Result<Value, NoMemory>
     ensures { IfOk result (λ v. view v ≡ bundle_json bundle.now) }
 {
     let mut fields = Map::new(alloc);
-    add(&mut fields, alloc, "tasks", optional_list_json(alloc, bundle.tasks.as_slice())?)?;
-    add(&mut fields, alloc, "workflows", optional_list_json(alloc, bundle.workflows.as_slice())?)?;
-    add(&mut fields, alloc, "primary", Some(workflow_id_value(alloc, &bundle.primary)?))?;
+    add(
+        &mut fields,
+        alloc,
+        "tasks",
+        optional_list_json(alloc, bundle.tasks.as_slice())?,
+    )?;
+    add(
+        &mut fields,
+        alloc,
+        "workflows",
+        optional_list_json(alloc, bundle.workflows.as_slice())?,
+    )?;
+    add(
+        &mut fields,
+        alloc,
+        "primary",
+        Some(workflow_id_value(alloc, &bundle.primary)?),
+    )?;
     Ok(Value::Object(fields))
 }
 
@@ -172,10 +288,7 @@ impl ToEntry for (Text, List<Text>) {
     }
 }
 
-fn connections_value(
-    alloc: Global,
-    connections: &Connections,
-) -> Result<Option<Value>, NoMemory>
+fn connections_value(alloc: Global, connections: &Connections) -> Result<Option<Value>, NoMemory>
     ensures { IfOk result (λ o. option_map view o ≡ connections_json connections.now) }
 {
     let upstream = optional_map_json(alloc, connections.upstream.as_slice())?;
@@ -194,8 +307,18 @@ fn compiled_workflow_value(
     ensures { IfOk result (λ v. view v ≡ compiled_workflow_json workflow.now connections.now) }
 {
     let mut fields = Map::new(alloc);
-    add(&mut fields, alloc, "template", Some(workflow.to_json(alloc)?))?;
-    add(&mut fields, alloc, "connections", connections_value(alloc, connections)?)?;
+    add(
+        &mut fields,
+        alloc,
+        "template",
+        Some(workflow.to_json(alloc)?),
+    )?;
+    add(
+        &mut fields,
+        alloc,
+        "connections",
+        connections_value(alloc, connections)?,
+    )?;
     Ok(Value::Object(fields))
 }
 
@@ -262,6 +385,11 @@ pub fn closure_value(alloc: Global, closure: &Closure) -> Result<Value, NoMemory
     let mut fields = Map::new(alloc);
     add(&mut fields, alloc, "primary", primary)?;
     add(&mut fields, alloc, "subWorkflows", subs)?;
-    add(&mut fields, alloc, "tasks", compiled_tasks_value(alloc, closure.tasks.as_slice())?)?;
+    add(
+        &mut fields,
+        alloc,
+        "tasks",
+        compiled_tasks_value(alloc, closure.tasks.as_slice())?,
+    )?;
     Ok(Value::Object(fields))
 }

@@ -10,6 +10,8 @@ mod message;
 mod printing;
 mod read_bundle;
 mod status;
+#[cfg(test)]
+mod tests;
 mod top;
 mod words;
 mod write_closure;

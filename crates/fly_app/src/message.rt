@@ -68,10 +68,7 @@ pub fn optional_message_json(fields: Map<String, Value>) -> Option<Value>
 }
 
 /// A list, which is left out where it is empty.
-pub fn optional_list_json<T: ToJson>(
-    alloc: Global,
-    items: &[T],
-) -> Result<Option<Value>, NoMemory>
+pub fn optional_list_json<T: ToJson>(alloc: Global, items: &[T]) -> Result<Option<Value>, NoMemory>
     ensures { IfOk result (λ o. option_map view o ≡ optional_list (map T.json items.now)) }
 {
     let mut values = Vec::with_capacity(alloc, items.len())?;
