@@ -5,6 +5,8 @@ mod closure;
 mod interface;
 mod names;
 mod task;
+#[cfg(test)]
+mod tests;
 mod workflow;
 
 pub use closure::{Closure, Connections};
