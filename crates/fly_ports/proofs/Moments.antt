@@ -1,5 +1,5 @@
 -- The answers of a clock in memory.
-use Rattle.std.proofs.Common.{◌≡◌, ℕ, zero, suc, ◌+◌, ◌-◌, ◌^◌, ◌<◌, ◌≤◌, ℤ, List, [], ◌∷◌, ◌++◌, length, refl, ◌∙◌, ap, arith, length-append, ltb, inl, inr, true, false, Some}
+use Rattle.std.proofs.Common.{◌≡◌, ℕ, zero, suc, ◌-◌, ◌^◌, ◌≤◌, ℤ, List, [], ◌∷◌, length, refl, ap, arith, length-append, ltb, inl, inr, true, false, Some}
 use Rattle.std.proofs.lemmas.Bool.{cases_lt, lt-ltb, le-ltb}
 use Rattle.fly_ports.specs.Faults.{counted}
 use Rattle.fly_ports.specs.Answers.{with_answer, answered}

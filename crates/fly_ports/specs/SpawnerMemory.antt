@@ -1,5 +1,5 @@
 -- A spawner in memory.
-use Rattle.std.specs.Prelude.{ℕ, ◌≡◌, List, [], ◌∷◌, take, Option, Result, Ok, Err, if◌then◌else◌, bytes_eq, ⊤}
+use Rattle.std.specs.Prelude.{ℕ, ◌≡◌, List, [], ◌∷◌, take, Result, Ok, Err, if◌then◌else◌, bytes_eq, ⊤}
 use Rattle.fly_ports.specs.Faults.{counted, is_bad}
 use Rattle.fly_ports.specs.Runs.{with_run}
 use Rattle.fly_ports.specs.declared.faults.SpawnFault.{SpawnFault}

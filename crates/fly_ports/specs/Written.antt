@@ -1,7 +1,7 @@
 -- What a sink has got.
-use Rattle.std.specs.Prelude.{ℕ, ◌+◌, ◌≡◌, min, List, [], ◌∷◌, ◌++◌, length, take, Option, None, Some}
+use Rattle.std.specs.Prelude.{ℕ, ◌≡◌, List, [], ◌++◌, length, take, Option, None, Some}
 use Rattle.std.specs.Io.KnownBytes.{append_known}
-use Rattle.std.proofs.Common.{zero, suc, refl, sym, ◌∙◌, ap, append_assoc}
+use Rattle.std.proofs.Common.{refl, sym, ◌∙◌, ap, append_assoc}
 use Rattle.std.proofs.lemmas.List.{append-nil}
 use Rattle.std.proofs.Math.Seq.{take-length}
 use Rattle.fly_ports.specs.Parts.{take-front, take-past}

@@ -136,17 +136,22 @@ fn runs_are_answered_by_name(rt: HostRuntime) -> Result<(), Fail> {
     Ok(())
 }
 
+fn handed_over<T: Send>(value: T) -> T {
+    value
+}
+
 #[test]
 fn a_clock_repeats_its_last_answer(rt: HostRuntime) -> Result<(), Fail> {
     let alloc = rt.alloc();
     let mut clock = ListClock::make(List::from_vec(vec![in alloc; 7, -1]?));
     assert_eq!(rt; [clock.now(), clock.now(), clock.now()], [7, -1, -1]);
     assert_eq!(rt; ListClock::make(List::from_vec(vec![in alloc]?)).now(), 0);
-    let mut hand = Hand {
-        spawner: 1u8,
+    let none = List::from_vec(vec![in alloc]?);
+    let mut hand = handed_over(Hand {
+        spawner: TableSpawner::make(alloc, none, numbers(alloc, &[])?),
         clock,
         gate: OpenGate,
-    };
+    });
     hand.gate.pause(Point::AfterRead);
     assert_eq!(rt; hand.clock.now(), -1);
     Ok(())

@@ -1,7 +1,7 @@
-use Rattle.std.proofs.Common.{◌≡◌, ℕ, ℤ, List, ap, ◌∙◌, rules, SFits, w64}
+use Rattle.std.proofs.Common.{◌≡◌, ℤ, List, ap, ◌∙◌, rules, SFits, w64}
 use Rattle.std.proofs.lemmas.Int.{to_z-of_z}
 use Rattle.fly_ports.proofs.Moments.{answered-first_answers}
-use Rattle.fly_ports.specs.ClockMemory.{ClockMemory, answer_at}
+use Rattle.fly_ports.specs.ClockMemory.{answer_at}
 use Rattle.fly_ports.proofs.list_clock.ListClockClock.now.Goals as goal
 
 pub returns-clause-told : goal.returns-clause-told
