@@ -3,3 +3,4 @@ mod CommandLines
 mod FileReads
 mod Floats
 mod Messages
+mod Candidates

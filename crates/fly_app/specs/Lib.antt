@@ -6,3 +6,4 @@ pub mod Reading
 pub mod Commands
 pub mod Answers
 pub mod Stops
+pub mod Candidate

@@ -1,6 +1,7 @@
 //! The commands of `flyte`, and the top call that runs one.
 #![tactic(auto)]
 
+mod candidate;
 mod closure_of_file;
 mod commands;
 mod compile;
