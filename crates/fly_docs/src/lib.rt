@@ -1,6 +1,7 @@
 //! The documents of a workflow: identifiers, interfaces, tasks, nodes, workflows, bundles and closures.
 #![tactic(auto)]
 
+mod checks;
 mod closure;
 mod interface;
 mod names;
@@ -9,6 +10,7 @@ mod task;
 mod tests;
 mod workflow;
 
+pub use checks::{are_in_order, is_field, is_id, is_identifier};
 pub use closure::{Closure, Connections};
 pub use interface::{Binding, Bound, Interface};
 pub use names::{END_NODE, Identifier, START_NODE};
