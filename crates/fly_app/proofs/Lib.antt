@@ -4,3 +4,5 @@ mod FileReads
 mod Floats
 mod Messages
 mod Candidates
+mod Orders
+mod Sorting

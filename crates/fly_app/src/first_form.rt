@@ -4,6 +4,8 @@ ghost use Rattle.fly_types.specs.declared.kinds.LiteralType.TheVariants as types
 ghost use Rattle.fly_types.specs.declared.kinds.Simple.TheVariants as simple;
 ghost use Rattle.fly_docs.specs.Names.{IsId, IsIdentifier};
 ghost use Rattle.fly_docs.specs.Interfaces.{names_of, bound_names, AreInOrder, promised_node, promised_var};
+ghost use Rattle.fly_docs.specs.declared.interface.Binding as binding;
+ghost use Rattle.fly_docs.specs.Closures.{task_of};
 ghost use Rattle.fly_app.specs.FirstForm as form;
 
 use fly_docs::{
@@ -53,57 +55,89 @@ fn runs_once(
     ensures { IfOk result
         (λ t. IsTrue t ↔ form.IsFirstForm bundle.now task.now workflow.now node.now) }
 {
-    let Target::Task(target) = &node.target;
     if bundle.primary != workflow.id
-        || *target != task.id
         || !is_plain_task(task)
         || !is_plain_workflow(workflow)
-        || !is_plain_node(node)
+        || !runs_plainly(node, task)
     {
         return Ok(false);
     }
-    let given = workflow.interface.inputs.as_slice();
-    let made = task.interface.outputs.as_slice();
-    Ok(binds_each(
+    let inputs_bound = binds_each(
         alloc,
         task.interface.inputs.as_slice(),
         START_NODE,
-        given,
+        workflow.interface.inputs.as_slice(),
         node.inputs.as_slice(),
-    )? && binds_each(
+    )?;
+    if !inputs_bound {
+        return Ok(false);
+    }
+    binds_each(
         alloc,
         workflow.interface.outputs.as_slice(),
         node.id.as_str(),
-        made,
+        task.interface.outputs.as_slice(),
         workflow.outputs.as_slice(),
-    )?)
+    )
 }
 
 fn is_plain_workflow(workflow: &Workflow) -> bool
-    ensures { IsTrue result ↔ (IsIdentifier workflow.now.id × (workflow.now.fail_late ≡ false) × form.IsIntegerInterface workflow.now.interface) }
+    ensures { IsTrue result ↔ (IsIdentifier workflow.now.id × (workflow.now.fail_late ≡ false)
+        × form.IsIntegerInterface workflow.now.interface) }
 {
     is_identifier(&workflow.id) && !workflow.fail_late && is_integer_interface(&workflow.interface)
+}
+
+fn runs_plainly(node: &Node, task: &Task) -> bool
+    ensures { IsTrue result
+        ↔ (form.IsPlainNode node.now × (task_of node.now.target ≡ task.now.id)) }
+{
+    let Target::Task(target) = &node.target;
+    is_plain_node(node) && *target == task.id
 }
 
 fn is_plain_task(task: &Task) -> bool
     ensures { IsTrue result ↔ form.IsPlainTask task.now }
 {
-    is_identifier(&task.id)
-        && !task.cached
+    if !is_identifier(&task.id)
+        || !has_no_metadata(task)
+        || !is_integer_interface(&task.interface)
+    {
+        return false;
+    }
+    is_plain_command(task)
+}
+
+fn has_no_metadata(task: &Task) -> bool
+    ensures { IsTrue result ↔ ((task.now.cached ≡ false) × (task.now.serializable ≡ false)
+        × (task.now.cache_version ≡ []) × (task.now.timeout_ms ≡ 0) × (task.now.retries ≡ 0)) }
+{
+    !task.cached
         && !task.serializable
         && task.cache_version.as_str().is_empty()
         && task.timeout_ms == 0
         && task.retries == 0
-        && is_integer_interface(&task.interface)
-        && !task.command.is_empty()
-        && are_plain_words(task.command.as_slice())
-        && task.args.is_empty()
+}
+
+fn is_plain_command(task: &Task) -> bool
+    ensures { IsTrue result ↔ ((task.now.command ≢ [])
+        × All (λ word. form.HasTemplate word → ⊥) task.now.command × (task.now.args ≡ [])) }
+{
+    if task.command.is_empty() || !task.args.is_empty() {
+        return false;
+    }
+    are_plain_words(task.command.as_slice())
 }
 
 fn are_plain_words(words: &[Text]) -> bool
     ensures { IsTrue result ↔ All (λ word. form.HasTemplate word → ⊥) words.now }
 {
-    words.iter().all(|word| !has_template(word.as_str()))
+    for word in words {
+        if has_template(word.as_str()) {
+            return false;
+        }
+    }
+    true
 }
 
 /// Whether a template of an input could stand in the word.
@@ -163,17 +197,45 @@ fn binds_each(
     ensures { IfOk result
         (λ t. IsTrue t ↔ form.BindsEach variables.now node.now outputs.now bindings.now) }
 {
-    Ok(bindings.iter().all(|b| is_promise(&b.bound, node, outputs))
-        && are_bound_once(alloc, variables, bindings)?)
+    if !are_promised_by(bindings, node) || !are_promises_of(bindings, outputs) {
+        return Ok(false);
+    }
+    are_bound_once(alloc, variables, bindings)
 }
 
-/// Whether an output of the node is promised that it has.
-fn is_promise(bound: &Bound, node: &str, outputs: &[Variable]) -> bool
-    requires { AreInOrder (names_of outputs.now) }
-    ensures { IsTrue result ↔ ((promised_node bound.now ≡ node.now) × Contains (names_of outputs.now) (promised_var bound.now)) }
+fn are_promised_by(bindings: &[Binding], node: &str) -> bool
+    ensures { IsTrue result
+        ↔ All (λ (b : binding.Binding). promised_node b.bound ≡ node.now) bindings.now }
 {
-    let Bound::Promise { node: from, var } = bound;
-    from.as_str() == node && has_name(outputs, var.as_str())
+    bindings.iter().all(|b| is_promised_by(&b.bound, node))
+}
+
+fn is_promised_by(bound: &Bound, node: &str) -> bool
+    ensures { IsTrue result ↔ (promised_node bound.now ≡ node.now) }
+{
+    let Bound::Promise { node: from, .. } = bound;
+    from.as_str() == node
+}
+
+fn are_promises_of(bindings: &[Binding], outputs: &[Variable]) -> bool
+    requires { AreInOrder (names_of outputs.now) }
+    ensures { IsTrue result
+        ↔ All (λ (b : binding.Binding). Contains (names_of outputs.now) (promised_var b.bound)) bindings.now }
+{
+    for binding in bindings {
+        if !is_promise_of(&binding.bound, outputs) {
+            return false;
+        }
+    }
+    true
+}
+
+fn is_promise_of(bound: &Bound, outputs: &[Variable]) -> bool
+    requires { AreInOrder (names_of outputs.now) }
+    ensures { IsTrue result ↔ Contains (names_of outputs.now) (promised_var bound.now) }
+{
+    let Bound::Promise { var, .. } = bound;
+    has_name(outputs, var.as_str())
 }
 
 fn has_name(variables: &[Variable], name: &str) -> bool
