@@ -6,3 +6,4 @@ mod Messages
 mod Candidates
 mod Orders
 mod Sorting
+mod RoundTrip
