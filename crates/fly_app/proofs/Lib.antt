@@ -7,3 +7,5 @@ mod Candidates
 mod Orders
 mod Sorting
 mod RoundTrip
+mod Depths
+mod Documented
