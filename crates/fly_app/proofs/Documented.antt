@@ -22,6 +22,7 @@ pub record AreTexts (d : Data) (text : List ℕ) : Type 0 where
 
 -- a value and a document with one text are one
 pub one_text : (d : Data) (b : Bundle) (text written : List ℕ) → depth d ≤ max_depth → AreTexts d text → AreTexts (bundle_json b) written → (text ≡ written) ↔ (d ≡ bundle_json b)
-one_text d b text written shallow t w =
-    (λ same. let both : Some d ≡ Some (bundle_json b) = sym (t.reads_back shallow) ∙ ap read same ∙ w.reads_back (bundle-within b) in cc,
-    λ same. t.compact (ap has_float same ∙ bundle-no_float b) ∙ ap compact_text same ∙ sym (w.compact (bundle-no_float b)))
+one_text d b text written shallow t w = (
+  λ same. let both : Some d ≡ Some (bundle_json b) = sym (t.reads_back shallow) ∙ ap read same ∙ w.reads_back (bundle-within b) in cc,
+  λ same. t.compact (ap has_float same ∙ bundle-no_float b) ∙ ap compact_text same ∙ sym (w.compact (bundle-no_float b)),
+)

@@ -54,8 +54,9 @@ absent vs name i below above has =
     let within : k < length vs = rw length-map at has.1 in
     let is : (get_or vs k (named name)).name ≡ name = sym (name_at vs k (named name)) ∙ has.2 in
     elim (cases_lt k i) [
-        inl before ↦ let e = same_not Less _ name (below k (named name) (omega arith) before) is in cc
-      | inr after ↦ let e = same_not Greater _ name (above k (named name) after within) is in cc ]
+      | inl before ↦ let e = same_not Less _ name (below k (named name) (omega arith) before) is in cc
+      | inr after ↦ let e = same_not Greater _ name (above k (named name) after within) is in cc
+    ]
 
 -- what a binary search for a name finds
 pub name_found : (vs : List Variable) (name : List ℕ) (r : Result ℕ ℕ) → AreInOrder (names_of vs) → IsSearchInRange r (length vs)

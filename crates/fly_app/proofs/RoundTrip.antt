@@ -210,8 +210,15 @@ task_back t h =
     let retries = sym h.retries in
     let args = sym h.args in
     λ j. record {
-      id = id j; cached = cached j; serializable = serializable j; cache_version = cache_version j; timeout_ms = timeout j; retries = retries j;
-      interface = interface j; command = command j; args = args j;
+      id = id j;
+      cached = cached j;
+      serializable = serializable j;
+      cache_version = cache_version j;
+      timeout_ms = timeout j;
+      retries = retries j;
+      interface = interface j;
+      command = command j;
+      args = args j;
     }
 
 target_back : (t : Target) → targets.Task (task_of t) ≡ t

@@ -87,22 +87,23 @@ strictly_sorted [] h k = tt
 strictly_sorted (n ∷ ns) h k =
     sorted_from_all_adjacent nat_list_cmp_total (map (λ n. n.now) (n ∷ ns)) n.now
     (λ i within.
-        let short : i + 1 < length (n ∷ ns) = rw length-map at within in
-        let apart = apart_from_distinct (eq_by_cmp compared) (map (λ n. n.now) (n ∷ ns)) i (i + 1) n.now k (omega arith) within in
-        let not_below = h i n (omega arith) short in
-        let here = (get_or (n ∷ ns) i n).now in
-        let next = (get_or (n ∷ ns) (i + 1) n).now in
-        rw (now_at (n ∷ ns) i n, now_at (n ∷ ns) (i + 1) n)
-        (less_from (compared here next) (compared next here) (nat_list_cmp_total.antisymm here next) not_below (rw (now_at (n ∷ ns) i n, now_at (n ∷ ns) (i + 1) n) at apart)))
+    let short : i + 1 < length (n ∷ ns) = rw length-map at within in
+    let apart = apart_from_distinct (eq_by_cmp compared) (map (λ n. n.now) (n ∷ ns)) i (i + 1) n.now k (omega arith) within in
+    let not_below = h i n (omega arith) short in
+    let here = (get_or (n ∷ ns) i n).now in
+    let next = (get_or (n ∷ ns) (i + 1) n).now in
+    rw (now_at (n ∷ ns) i n, now_at (n ∷ ns) (i + 1) n)
+    (less_from (compared here next) (compared next here) (nat_list_cmp_total.antisymm here next) not_below (rw (now_at (n ∷ ns) i n, now_at (n ∷ ns) (i + 1) n) at apart)))
 
 -- texts that are sorted are these in order exactly where they were these in some order
 pub sorted_names : (bound sorted : List (Bor (List ℕ))) (names : List (List ℕ)) → IsStrictlySortedBy compared names → IsPermutation bound sorted → IsSortedTexts sorted
     → (map (λ n. n.now) sorted ≡ names) ↔ IsPermutation (map (λ n. n.now) bound) names
 sorted_names bound sorted names order moved rises =
     let now : Bor (List ℕ) → List ℕ = λ n. n.now in
-    let moved_names = IsPermutation-map now bound sorted moved in
-    (λ e. subst (λ xs. IsPermutation (map now bound) xs) e moved_names,
-    λ same.
-        let alike : IsPermutation (map now sorted) names = IsPermutation-trans (map now sorted) (map now bound) names (IsPermutation-sym _ _ moved_names) same in
-        let differ = IsDistinct-IsPermutation (eq_by_cmp compared) (eq_by_cmp_equiv nat_list_cmp_total).symm names (map now sorted) (IsPermutation-sym _ _ alike) (IsDistinct-from_sorted compared names order) in
-        one_order (map now sorted) names (strictly_sorted sorted rises differ) order (λ p. list_any-IsPermutation p (map now sorted) names alike))
+    let moved_names = IsPermutation-map now bound sorted moved in (
+      λ e. subst (λ xs. IsPermutation (map now bound) xs) e moved_names,
+      λ same.
+          let alike : IsPermutation (map now sorted) names = IsPermutation-trans (map now sorted) (map now bound) names (IsPermutation-sym _ _ moved_names) same in
+          let differ = IsDistinct-IsPermutation (eq_by_cmp compared) (eq_by_cmp_equiv nat_list_cmp_total).symm names (map now sorted) (IsPermutation-sym _ _ alike) (IsDistinct-from_sorted compared names order) in
+          one_order (map now sorted) names (strictly_sorted sorted rises differ) order (λ p. list_any-IsPermutation p (map now sorted) names alike),
+    )

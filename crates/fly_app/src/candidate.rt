@@ -100,10 +100,7 @@ fn variables_from(alloc: Global, value: Option<&Value>) -> Result<List<Variable>
     }
 }
 
-fn integers_named(
-    alloc: Global,
-    entries: &Map<String, Value>,
-) -> Result<List<Variable>, NoMemory>
+fn integers_named(alloc: Global, entries: &Map<String, Value>) -> Result<List<Variable>, NoMemory>
     ensures { IfOk result (λ vs. vs
         ≡ map made.integer_named (made.names_in (members_view entries.now.entries))) }
 {

@@ -156,9 +156,7 @@ fn is_integer_interface(interface: &Interface) -> bool
 fn are_integers(variables: &[Variable]) -> bool
     ensures { IsTrue result ↔ form.AreIntegers variables.now }
 {
-    have_ids(variables)
-        && are_in_order(variables)
-        && variables.iter().all(|v| is_integer(&v.kind))
+    have_ids(variables) && are_in_order(variables) && variables.iter().all(|v| is_integer(&v.kind))
 }
 
 fn have_ids(variables: &[Variable]) -> bool
@@ -242,7 +240,9 @@ fn has_name(variables: &[Variable], name: &str) -> bool
     requires { AreInOrder (names_of variables.now) }
     ensures { IsTrue result ↔ Contains (names_of variables.now) name.now }
 {
-    variables.binary_search_by(|v| v.name.as_str().cmp(name)).is_ok()
+    variables
+        .binary_search_by(|v| v.name.as_str().cmp(name))
+        .is_ok()
 }
 
 /// Whether the bindings bind these variables, each once.

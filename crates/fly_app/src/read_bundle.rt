@@ -35,8 +35,13 @@ fn at_place(alloc: Global, kind: DocKind) -> DocFault
 {
     let nowhere = Text::from_string(String::new(alloc));
     match kind {
-        DocKind::NoMemory => DocFault { kind, place: nowhere },
-        DocKind::NotJson | DocKind::TooLarge | DocKind::NotBuilt => match Text::from_str(alloc, "/") {
+        DocKind::NoMemory => DocFault {
+            kind,
+            place: nowhere,
+        },
+        DocKind::NotJson | DocKind::TooLarge | DocKind::NotBuilt => match Text::from_str(
+            alloc, "/",
+        ) {
             Ok(place) => DocFault { kind, place },
             Err(NoMemory) => DocFault {
                 kind: DocKind::NoMemory,
@@ -95,3 +100,6 @@ fn is_document_of(alloc: Global, value: &Value, bundle: &Bundle) -> Result<bool,
     let text = value.to_vec(alloc)?;
     Ok(text.as_slice() == written_text.as_slice())
 }
+
+#[cfg(test)]
+mod tests;

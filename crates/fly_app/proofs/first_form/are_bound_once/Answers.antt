@@ -10,6 +10,7 @@ returns c =
     let names = names_of c.args.variables.now in
     let all : map (λ n. n.now) c.loop-binding.bound.items ≡ bound_names c.args.bindings.now = c.loop-binding.invariant ∙ ap bound_names (take_all _ _ c.loop-binding-test.false) in
     let named = rw c.deref.ensures.value at c.are_names_of.ensures in
-    let says = sorted_names c.loop-binding.bound.items c.sort_unstable.new.self.items names c.requires c.sort_unstable.ensures.permutation c.sort_unstable.ensures.sorted in
-    (λ e. subst (λ xs. IsPermutation xs names) all (says.0 (named.0 e)),
-    λ p. named.1 (says.1 (subst (λ xs. IsPermutation xs names) (sym all) p)))
+    let says = sorted_names c.loop-binding.bound.items c.sort_unstable.new.self.items names c.requires c.sort_unstable.ensures.permutation c.sort_unstable.ensures.sorted in (
+      λ e. subst (λ xs. IsPermutation xs names) all (says.0 (named.0 e)),
+      λ p. named.1 (says.1 (subst (λ xs. IsPermutation xs names) (sym all) p)),
+    )

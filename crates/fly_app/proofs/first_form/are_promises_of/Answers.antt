@@ -7,9 +7,10 @@ use Rattle.fly_app.proofs.first_form.are_promises_of.Goals as goal
 
 pub returns-then-not-is_promise_of : goal.returns-then-not-is_promise_of
 returns-then-not-is_promise_of c =
-    let P = λ (b : Binding). Contains (names_of c.args.outputs.now) (promised_var b.bound) in
-    (λ e. absurd (false≢true e),
-    λ each. sym c.if-not-is_promise_of.true ∙ c.is_promise_of.ensures.1 (subst P (sym c.binding-item.is) (each c.loop-binding.binding-index c.binding-item.result c.loop-binding-test.true)))
+    let P = λ (b : Binding). Contains (names_of c.args.outputs.now) (promised_var b.bound) in (
+      λ e. absurd (false≢true e),
+      λ each. sym c.if-not-is_promise_of.true ∙ c.is_promise_of.ensures.1 (subst P (sym c.binding-item.is) (each c.loop-binding.binding-index c.binding-item.result c.loop-binding-test.true)),
+    )
 
 pub loop-binding-preserved : goal.loop-binding-preserved
 loop-binding-preserved c =

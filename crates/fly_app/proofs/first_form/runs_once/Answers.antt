@@ -22,11 +22,21 @@ returns c =
     let inputs = (rw (c.as_slice.ensures, c.as_slice-2.ensures, c.as_slice-3.ensures) at c.in_ok-inputs_bound.ensures).0 c.if-not-inputs_bound.false in
     let outputs = rw (c.as_slice-4.ensures, c.as_str.ensures, c.as_slice-5.ensures, c.as_slice-6.ensures) at c.binds_each-2.ensures in
     IfOk-weaker c.binds_each-2.result (λ r. IsTrue r ↔ BindsEach w.interface.outputs n.id t.interface.outputs w.outputs) (λ r. IsTrue r ↔ IsFirstForm b t w n)
-    (λ r says.
-        (λ e. record {
-          tasks = c.requires.tasks; workflows = c.requires.workflows; nodes = c.requires.nodes; primary = primary; task = task;
-          id = workflow.0; fails_at_once = workflow.1; interface = workflow.2; node = node.0; target = node.1;
-          inputs = inputs; outputs = says.0 e;
-        },
-        λ form. says.1 form.outputs))
+    (λ r says. (
+      λ e. record {
+        tasks = c.requires.tasks;
+        workflows = c.requires.workflows;
+        nodes = c.requires.nodes;
+        primary = primary;
+        task = task;
+        id = workflow.0;
+        fails_at_once = workflow.1;
+        interface = workflow.2;
+        node = node.0;
+        target = node.1;
+        inputs = inputs;
+        outputs = says.0 e;
+      },
+      λ form. says.1 form.outputs,
+    ))
     outputs
