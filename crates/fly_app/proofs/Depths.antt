@@ -1,8 +1,7 @@
 -- Documents nest a few levels deep.
-use Rattle.std.proofs.Common.{ℕ, suc, ◌≤◌, List, [], ◌∷◌, map, Option, Some, None, Ordering, Less, Equal, Greater, nat_cmp, codes, arith}
+use Rattle.std.proofs.Common.{ℕ, suc, ◌≤◌, List, [], ◌∷◌, map, Option, Some, None, Ordering, Less, Equal, Greater, codes, arith}
 use Rattle.std.specs.List.{AllByRecursion}
 use Rattle.std.specs.Ordering.{match_ordering}
-use Rattle.std.specs.Cmp.Lexicographic.{slice_cmp}
 use Rattle.serde_json.specs.Data.{Data, string, Members, no_members, member, put, depth, items_depth, members_depth}
 use Rattle.serde_json.specs.Read.{max_depth}
 use Rattle.serde_json.specs.View.{items_of}
@@ -17,8 +16,8 @@ use Rattle.fly_docs.specs.declared.workflow.Node.{Node}
 use Rattle.fly_docs.specs.declared.workflow.Workflow.{Workflow}
 use Rattle.fly_docs.specs.declared.workflow.Bundle.{Bundle}
 use Rattle.fly_docs.specs.Closures.{task_of}
-use Rattle.fly_app.specs.Json.{Fields, with_field, with_fields, message, unless_empty, optional_message, optional_text, optional_list, optional_map, as_fields}
-use Rattle.fly_app.specs.Documents.{identifier_fields, variable_json, variable_entry, variables_fields, variables_json, interface_fields, interface_json, reference_fields, bound_json, binding_fields, binding_json, container_fields, task_fields, task_json, task_node_fields, node_fields, node_json, workflow_fields, workflow_json, bundle_fields, bundle_json, identifier_json}
+use Rattle.fly_app.specs.Json.{Fields, with_field, with_fields, message, unless_empty, optional_message, optional_text, optional_list, as_fields}
+use Rattle.fly_app.specs.Documents.{identifier_fields, variable_entry, variables_fields, variables_json, interface_fields, interface_json, reference_fields, bound_json, binding_fields, binding_json, container_fields, task_fields, task_json, task_node_fields, node_fields, node_json, workflow_fields, workflow_json, bundle_fields, bundle_json, identifier_json}
 
 -- ---- messages
 

@@ -1,19 +1,18 @@
 -- Names in order: where one is found, and that their order is the only one.
-use Rattle.std.proofs.Common.{◌≡◌, ◌↔◌, ℕ, ◌+◌, ◌<◌, ◌≤◌, Bool, true, false, not, ◌&&◌, Ordering, Less, Equal, Greater, is_lt, is_eq, List, [], ◌∷◌, length, get_or, map, Result, Ok, Err, is_ok, nat_cmp, nat_eq, Bor, take, inl, inr, refl, sym, ap, ◌∙◌, arith}
+use Rattle.std.proofs.Common.{◌≡◌, ◌↔◌, ℕ, ◌+◌, ◌<◌, Bool, true, false, not, Ordering, Less, Equal, Greater, is_lt, List, length, get_or, map, Result, Ok, Err, is_ok, nat_cmp, nat_eq, Bor, take, inl, inr, refl, sym, ap, ◌∙◌, arith}
 use Rattle.std.proofs.Math.ListN.{get_or-map}
 use Rattle.std.proofs.lemmas.Bool.{false≢true}
 use Rattle.std.proofs.lemmas.Bool.{cases_lt}
 use Rattle.std.proofs.lemmas.List.{length-map, map-append, take_more, get_or_default}
-use Rattle.std.proofs.lemmas.List.Elements.{recursion_from_All}
-use Rattle.std.proofs.lemmas.List.Sorted.{searchable_from_sorted, list_any-IsPermutation, IsPermutation-sym, IsPermutation-trans}
+use Rattle.std.proofs.lemmas.List.Sorted.{searchable_from_sorted}
 use Rattle.std.proofs.lemmas.Cmp.{nat_list_cmp_total, tied_itself}
-use Rattle.std.proofs.lemmas.Map.Keys.{Less-from_sorted, sorted_from_all_adjacent, sorted_head, sorted_tail, IsDistinct-from_sorted, IsDistinct-IsPermutation, apart_from_distinct}
+use Rattle.std.proofs.lemmas.Map.Keys.{Less-from_sorted}
 use Rattle.std.proofs.lemmas.Map.Lookups.{exact_bytes}
 use Rattle.std.proofs.lemmas.Slice.Eq.{bytes_eq-Decides}
 use Rattle.std.specs.Cmp.Lexicographic.{slice_cmp, pointwise, nat_list_eq_equiv}
-use Rattle.std.specs.List.{All, Contains, list_any, AllByRecursion, AllWithin}
-use Rattle.std.specs.List.Sorted.{IsStrictlySortedBy, IsSortedBy, IsBinarySearchResult, IsSearchInRange, IsPermutation}
-use Rattle.std.specs.Ordering.{ordering_reverse, eq_by_cmp}
+use Rattle.std.specs.List.{All, Contains, AllWithin}
+use Rattle.std.specs.List.Sorted.{IsSortedBy, IsBinarySearchResult, IsSearchInRange}
+use Rattle.std.specs.Ordering.{ordering_reverse}
 use Rattle.fly_types.specs.declared.literals.Variable.{Variable}
 use Rattle.fly_types.specs.declared.kinds.LiteralType.TheVariants as types
 use Rattle.fly_types.specs.declared.kinds.Simple.TheVariants as simple

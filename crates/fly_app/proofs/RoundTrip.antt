@@ -1,5 +1,5 @@
 -- A bundle of the form is the candidate of its own JSON.
-use Rattle.std.proofs.Common.{◌≡◌, ℕ, Bool, true, false, cond, Ordering, Less, Equal, Greater, List, [], ◌∷◌, ◌++◌, map, Option, Some, None, nat_cmp, codes, refl, sym, ap, ◌∙◌, append_assoc}
+use Rattle.std.proofs.Common.{◌≡◌, ℕ, Bool, true, false, cond, Ordering, Less, Greater, List, [], ◌∷◌, ◌++◌, map, Option, Some, None, nat_cmp, codes, refl, sym, ap, ◌∙◌, append_assoc}
 use Rattle.std.proofs.lemmas.List.{append-nil}
 use Rattle.std.proofs.lemmas.List.Elements.{recursion_from_All}
 use Rattle.std.proofs.lemmas.Cmp.{nat_list_cmp_total}
@@ -7,9 +7,9 @@ use Rattle.std.proofs.lemmas.Map.Keys.{sorted_head, sorted_tail}
 use Rattle.std.proofs.lemmas.Slice.Eq.{bytes_eq-Decides}
 use Rattle.std.specs.Str.{bytes_eq}
 use Rattle.std.specs.Cmp.Lexicographic.{slice_cmp}
-use Rattle.std.specs.List.{All, AllByRecursion}
+use Rattle.std.specs.List.{AllByRecursion}
 use Rattle.std.specs.List.Sorted.{IsStrictlySortedBy}
-use Rattle.std.specs.Ordering.{match_ordering, ordering_reverse}
+use Rattle.std.specs.Ordering.{ordering_reverse}
 use Rattle.serde_json.specs.Data.{Data, string, Members, no_members, member, put}
 use Rattle.serde_json.specs.Find.{get, get_member}
 use Rattle.serde_json.specs.View.{items_of}
@@ -28,7 +28,7 @@ use Rattle.fly_docs.specs.declared.workflow.Target.TheVariants as targets
 use Rattle.fly_docs.specs.declared.workflow.Node.{Node}
 use Rattle.fly_docs.specs.declared.workflow.Workflow.{Workflow}
 use Rattle.fly_docs.specs.declared.workflow.Bundle.{Bundle}
-use Rattle.fly_docs.specs.Interfaces.{names_of, AreInOrder}
+use Rattle.fly_docs.specs.Interfaces.{names_of}
 use Rattle.fly_docs.specs.Closures.{task_of}
 use Rattle.fly_app.specs.Json.{Fields, with_field, with_fields, message, unless_empty, optional_message, optional_text, optional_list, optional_map, as_fields}
 use Rattle.fly_app.specs.Documents.{identifier_fields, variable_json, variable_entry, variables_fields, variables_json, interface_fields, interface_json, reference_fields, bound_json, binding_fields, binding_json, container_fields, task_fields, task_json, task_node_fields, node_fields, node_json, workflow_fields, workflow_json, bundle_fields, bundle_json, identifier_json}

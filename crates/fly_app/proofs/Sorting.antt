@@ -1,5 +1,5 @@
 -- Texts have one order: a sort of names gives the names in order, and nothing else does.
-use Rattle.std.proofs.Common.{◌≡◌, ◌↔◌, ℕ, ◌+◌, ◌<◌, ◌≤◌, Bool, true, false, not, ◌&&◌, ◌||◌, Ordering, Less, Equal, Greater, is_lt, is_eq, List, [], ◌∷◌, length, get_or, map, nat_cmp, Bor, refl, sym, ap, subst, ◌∙◌, arith}
+use Rattle.std.proofs.Common.{◌≡◌, ◌↔◌, ℕ, ◌+◌, ◌<◌, Bool, true, false, not, ◌&&◌, ◌||◌, Ordering, Less, Equal, Greater, is_lt, is_eq, List, [], ◌∷◌, length, get_or, map, nat_cmp, Bor, refl, sym, ap, subst, ◌∙◌, arith}
 use Rattle.std.proofs.Math.ListN.{get_or-map}
 use Rattle.std.proofs.lemmas.Bool.{false≢true}
 use Rattle.std.proofs.lemmas.List.{length-map}

@@ -1,5 +1,5 @@
 -- Named by private functions alone: the one bundle that a JSON value could be the document of. What is absent or odd has its default there.
-use Rattle.std.specs.Prelude.{ℕ, List, [], ◌∷◌, map, Option, Some, None, option_and_then, unwrap_or, false, codes}
+use Rattle.std.specs.Prelude.{ℕ, List, [], ◌∷◌, map, Option, Some, option_and_then, unwrap_or, false, codes}
 use Rattle.serde_json.specs.Data.{Data, Items, no_items, item, Members, no_members, member}
 use Rattle.serde_json.specs.Find.{get, as_str, as_array, as_object}
 use Rattle.fly_types.specs.declared.kinds.LiteralType.TheVariants as types

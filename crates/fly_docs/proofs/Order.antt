@@ -1,5 +1,5 @@
 -- Variables in the order of their names.
-use Rattle.std.proofs.Common.{◌≡◌, ℕ, ◌+◌, ◌<◌, Less, List, [], ◌∷◌, length, get_or, nat_cmp, is_ge, true, sym, arith}
+use Rattle.std.proofs.Common.{◌≡◌, ℕ, ◌+◌, ◌<◌, Less, List, [], ◌∷◌, length, get_or, nat_cmp, is_ge, true, sym}
 use Rattle.std.proofs.lemmas.Bool.{false≢true}
 use Rattle.std.proofs.Math.ListN.{get_or-map}
 use Rattle.std.proofs.lemmas.List.{length-map, get_or_default}

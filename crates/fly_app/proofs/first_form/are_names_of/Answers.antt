@@ -1,4 +1,4 @@
-use Rattle.std.proofs.Common.{◌<◌, length, arith}
+use Rattle.std.proofs.Common.{arith}
 use Rattle.std.proofs.lemmas.Bool.{false≢true}
 use Rattle.fly_app.proofs.Orders.{name_differs, names_more}
 use Rattle.fly_app.proofs.first_form.are_names_of.Goals as goal

@@ -1,4 +1,4 @@
-use Rattle.std.proofs.Common.{◌≡◌, ℕ, List, ◌++◌, append_assoc, codes, ◌∙◌, sym}
+use Rattle.std.proofs.Common.{append_assoc, codes, ◌∙◌, sym}
 use Rattle.std.proofs.lemmas.Str.Pattern.{contains_text}
 use Rattle.fly_app.proofs.first_form.has_template.Goals as goal
 

@@ -1,4 +1,4 @@
-use Rattle.std.proofs.Common.{rules, ◌≡◌, ◌↔◌, IsTrue, All}
+use Rattle.std.proofs.Common.{rules, ◌↔◌, IsTrue, All}
 use Rattle.std.proofs.lemmas.List.Elements.{All-map}
 use Rattle.fly_types.specs.declared.literals.Variable.{Variable}
 use Rattle.fly_docs.specs.Names.{IsId}

@@ -1,4 +1,4 @@
-use Rattle.std.proofs.Common.{IsTrue, rules}
+use Rattle.std.proofs.Common.{rules}
 use Rattle.fly_app.proofs.first_form.is_plain_task.Goals as goal
 
 pub returns : goal.returns

@@ -1,6 +1,5 @@
-use Rattle.std.proofs.Common.{◌≡◌, Some, sym, ap, subst, ◌∙◌}
+use Rattle.std.proofs.Common.{Some, sym, ap, subst, ◌∙◌}
 use Rattle.std.proofs.lemmas.Bool.{false≢true}
-use Rattle.serde_json.specs.View.{view}
 use Rattle.fly_app.specs.Documents.{bundle_json}
 use Rattle.fly_app.specs.FirstForm.{FirstForm}
 use Rattle.fly_app.proofs.Documented.{candidate_is}

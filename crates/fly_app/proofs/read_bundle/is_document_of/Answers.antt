@@ -1,7 +1,5 @@
-use Rattle.std.proofs.Common.{◌≡◌, ◌↔◌, IsTrue, sym, subst, rules}
-use Rattle.std.proofs.lemmas.Slice.Eq.{bytes_eq-Decides}
+use Rattle.std.proofs.Common.{◌≡◌, ◌↔◌, IsTrue, subst, rules}
 use Rattle.serde_json.specs.View.{view}
-use Rattle.fly_app.specs.Documents.{bundle_json}
 use Rattle.fly_app.proofs.Documented.{AreTexts, one_text}
 use Rattle.fly_app.proofs.read_bundle.is_document_of.Goals as goal
 
