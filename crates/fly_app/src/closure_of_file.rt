@@ -1,4 +1,4 @@
-ghost use Rattle.std.specs.Prelude.{◌≡◌, ◌≤◌, ◌++◌, Some, IfOk, IfErr, OnOk};
+ghost use Rattle.std.specs.Prelude.{◌≡◌, ◌≢◌, ◌≤◌, IfOk, IfErr};
 ghost use Rattle.fly_docs.specs.declared.workflow.Bundle.{Bundle};
 ghost use Rattle.fly_docs.specs.declared.closure.Closure.{Closure};
 ghost use Rattle.fly_app.specs.Answers.{HasClosure};
@@ -64,6 +64,7 @@ pub fn closure_of_file<F: Files>(alloc: Global, files: &mut F, path: &str) -> Re
     ensures text { IfOk result (λ text. HasClosure (F.contents files.old) path.now text.items) }
     ensures stop { IfErr result
         (StopsAt (F.contents files.old) path.now (F.read_faults files.old) (F.read_faults files.new)) }
+    ensures kept { result ≢ Err Stop.Unread → F.read_faults files.new ≡ F.read_faults files.old }
     ensures contents { F.contents files.new ≡ F.contents files.old }
     ensures later { F.read_faults files.old ≤ F.read_faults files.new }
     ensures appends { F.append_faults files.new ≡ F.append_faults files.old }

@@ -4,7 +4,7 @@ ghost use Rattle.fly_docs.specs.declared.workflow.Bundle.{Bundle};
 ghost use Rattle.fly_app.specs.declared.faults.DocKind.{DocKind};
 ghost use Rattle.fly_app.specs.Commands.{IsCompile, IsFirstWrong};
 ghost use Rattle.fly_app.specs.Reading.{Reads, FirstFault};
-ghost use Rattle.fly_app.specs.Answers.{Compiles, Refuses, IsUnread, Gets, GetsPart, IsThere, IsAbsent, usage_text, refusal_text, unread_text};
+ghost use Rattle.fly_app.specs.Answers.{Compiles, Refuses, IsUnread, Gets, GetsPart, Tries, FailsToTell, Says, IsThere, IsAbsent, no_memory_text, unwritten_text, usage_text, refusal_text, unread_text};
 
 use crate::Status;
 use crate::closure_of_file::{Stop, closure_of_file};
@@ -41,9 +41,17 @@ pub fn plain<R, F: Files, O: Sink, E: Sink>(
         × IsUnread (F.contents files.old) path (F.read_faults files.old) (F.read_faults files.new)
         × Gets (E.written err.old) (E.written err.new) (unread_text path) }
 
-    // An answer was not written.
+    // An answer or the line for a refusal was not written.
     ensures unwritten { result ≡ Status.WriteFault
-        → Rose (O.faults out.old) (O.faults out.new) ⊎ Rose (E.faults err.old) (E.faults err.new) }
+        → (Rose (O.faults out.old) (O.faults out.new)
+            × Tries (E.written err.old) (E.written err.new) (E.faults err.old) (E.faults err.new) unwritten_text)
+        ⊎ (Rose (E.faults err.old) (E.faults err.new) × (line : List ℕ)
+            × Says (F.contents files.old) words.now (F.read_faults files.old) (F.read_faults files.new) line
+            × FailsToTell (E.written err.old) (E.written err.new) line) }
+
+    // There was no memory.
+    ensures memory { result ≡ Status.NoMemory
+        → Tries (E.written err.old) (E.written err.new) (E.faults err.old) (E.faults err.new) no_memory_text }
 
     // No other answer is given but want of memory.
     ensures others { (result ≢ Status.Failed) × (result ≢ Status.Damaged) }
@@ -73,7 +81,14 @@ pub fn plain<R, F: Files, O: Sink, E: Sink>(
         → (Rose (F.read_faults files.old) (F.read_faults files.new) → ⊥)
         → (result ≡ Status.Refused) ⊎ (result ≡ Status.WriteFault) ⊎ (result ≡ Status.NoMemory) }
 
-    // Where the words are a command, the file is there and can be read, and nothing fails, the closure is printed.
+    // No failure is passed over.
+    ensures reads_kept { (result ≡ Status.Done) ⊎ (result ≡ Status.Usage) ⊎ (result ≡ Status.Refused)
+        → F.read_faults files.new ≡ F.read_faults files.old }
+    ensures out_failed { O.faults out.new ≢ O.faults out.old → result ≡ Status.WriteFault }
+    ensures err_failed { E.faults err.new ≢ E.faults err.old
+        → (result ≡ Status.WriteFault) ⊎ (result ≡ Status.NoMemory) }
+
+    // Where the words are a command, the file is there, is a document and can be read, and nothing fails, the closure is printed.
     ensures complete { (path file : List ℕ) (b : Bundle) → IsCompile words.now path
         → IsThere (F.contents files.old) path file → Reads file b
         → (Rose (F.read_faults files.old) (F.read_faults files.new) → ⊥)
