@@ -1,0 +1,16 @@
+//! A ticket lock over an object with a growing list, whose turns form one history.
+#![tactic(auto)]
+
+mod annals;
+mod desk;
+
+mod pass;
+mod rule;
+mod turn;
+mod view;
+
+pub use annals::Annals;
+pub use desk::Desk;
+
+pub use pass::Pass;
+pub use turn::Turn;

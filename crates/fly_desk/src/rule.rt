@@ -1,0 +1,52 @@
+//! The rule of the table, and what each step tells.
+use crate::Annals;
+use crate::view::View;
+use atomic_table::{Play, TableRule};
+use std::marker::PhantomData;
+use std::snapshot::Snapshot;
+
+/// What a desk is started with.
+pub struct Start<O> {
+    pub object: Snapshot<O>,
+    pub calls: u64,
+}
+
+/// The rule of a desk.
+pub struct OneHistory<O> {
+    of: PhantomData<O>,
+}
+
+impl<O: Annals> TableRule<Option<O>, View<O::Entry, O::Basis>, Start<O>> for OneHistory<O> {
+    ghost use Rattle.fly_desk.specs.History.{IsDesk, origin_at, opening_view};
+
+    ghost holds = { λ start. IsDesk O.entries O.spare O.basis (origin_at O.entries O.spare O.basis start.object.value start.calls) };
+
+    ghost first = { λ start. opening_view (origin_at O.entries O.spare O.basis start.object.value start.calls) };
+}
+
+/// A ticket is drawn.
+pub(crate) struct Draw;
+
+impl<O: Annals> Play<Option<O>, View<O::Entry, O::Basis>> for Draw {
+    ghost use Rattle.fly_desk.specs.Steps.{Draws};
+
+    ghost then = { Draws };
+}
+
+/// The ticket that is served is looked at.
+pub(crate) struct Look;
+
+impl<O: Annals> Play<Option<O>, View<O::Entry, O::Basis>> for Look {
+    ghost use Rattle.fly_desk.specs.Steps.{Looks};
+
+    ghost then = { Looks O.entries O.spare O.basis };
+}
+
+/// The next ticket is served.
+pub(crate) struct PassOn;
+
+impl<O: Annals> Play<Option<O>, View<O::Entry, O::Basis>> for PassOn {
+    ghost use Rattle.fly_desk.specs.Steps.{Passes};
+
+    ghost then = { Passes O.entries O.spare O.basis };
+}
