@@ -16,6 +16,8 @@ use Rattle.fly_desk.specs.declared.view.Origin.{Origin}
 use Rattle.fly_desk.specs.declared.view.View.{View}
 use Rattle.fly_desk.specs.History.{StartsWith, once_within, count_of, times_ticket, times_at, AtTheirPlaces, opening_view, spent, Knows, IsAtHome, IsDesk}
 use Rattle.fly_desk.specs.Steps.{Knower, drawing, taking, passing, Draws, TakesOut, Looks, Passes}
+use Rattle.fly_desk.specs.Turns.{AddsOne, list_in, spare_in, basis_in}
+use Rattle.fly_desk.proofs.Options.{some_of, none_of, if_mapped, mapped}
 use Rattle.fly_desk.proofs.Sums.{sum_set, sum_term, sum_two, sum_mono, sum_less, sum_add, here_after, longer_begins, begins_longer, get_longer, stand_longer, within_inside, within_none, within_next, within_less, within_some, at_most_once}
 
 module _ {O E B : Type 0} (entries : O → List E) (spare : O → ℕ) (basis : O → B) (origin : Origin E B) where
@@ -55,30 +57,35 @@ module _ {O E B : Type 0} (entries : O → List E) (spare : O → ℕ) (basis : 
       let before : (k : ℕ) → times_ticket k v.ticket ≡ 0 = λ k. ap (times_ticket k) no_ticket in
       let waits : count_of v.ticket ≡ 0 = ap count_of no_ticket in
       let few : sum_by (λ (u : V). length u.own + count_of u.ticket) s.views < sum_by (λ (u : V). length u.own + u.left) s.views =
-          sum_less (λ (u : V). length u.own + count_of u.ticket) (λ (u : V). length u.own + u.left) s.views id v at (omega arith) (λ j u there. let m = (r.each j u there).may_call in omega arith) in
+      sum_less (λ (u : V). length u.own + count_of u.ticket) (λ (u : V). length u.own + u.left) s.views id v at (omega arith) (λ j u there. let m = (r.each j u there).may_call in omega arith) in
       let parts = sum_add (λ (u : V). length u.own) (λ (u : V). count_of u.ticket) s.views in
       let made = r.made in let drawn = r.drawn in let calls = r.calls in let fits = r.fits in
-      let bound : r.ticket < origin.calls = omega arith in
-      (w, keeps, tt, record {
-        log = r.log;
-        ticket = r.ticket + 1;
-        serving = r.serving;
-        slot = r.slot;
-        words = ap (λ (ws : List ℕ). set ws 0 ((found + 1) % 2 ^ 64)) r.words ∙ ap (λ (k : ℕ). k ∷ r.serving ∷ []) (ap (λ (k : ℕ). (k + 1) % 2 ^ 64) word ∙ mod_small (r.ticket + 1) (omega arith));
-        homes = r.homes;
-        fits = r.fits;
-        begins = r.begins;
-        served = r.served;
-        tickets = λ k. omega (arith, sum_set (λ (u : V). times_ticket k u.ticket) s.views id v w at, r.tickets k, before k, within_next r.serving r.ticket k (omega arith), ap (λ (t : ℕ). times_ticket k (Some t)) word);
-        drawn = omega (arith, sum_set (λ (u : V). count_of u.ticket) s.views id v w at);
-        places = λ p. omega (arith, sum_set (λ (u : V). times_at p u.own) s.views id v w at, r.places p);
-        made = omega (arith, sum_set (λ (u : V). length u.own) s.views id v w at);
-        calls = omega (arith, sum_set (λ (u : V). length u.own + u.left) s.views id v w at);
-        each = each_after (Knows origin r.log r.serving) s.views id w
-            (let k = r.each id v at in record { same = k.same; seen = k.seen; told = k.told; own = k.own; may_call = some_left; turn = subst (λ (o : Option (List E × ℕ)). IfSome o (λ h. (Some found ≡ Some r.serving) × (h.0 ≡ r.log) × (origin.calls ≤ h.1 + r.serving))) (sym no_hold) tt })
-            (λ j u _ there. r.each j u there);
-        at_home = home_stays r.log r.serving s.views r.slot id v w at no_hold no_hold r.at_home;
-      }, refl)
+      let bound : r.ticket < origin.calls = omega arith in (
+        w,
+        keeps,
+        tt,
+        record {
+          log = r.log;
+          ticket = r.ticket + 1;
+          serving = r.serving;
+          slot = r.slot;
+          words = ap (λ (ws : List ℕ). set ws 0 ((found + 1) % 2 ^ 64)) r.words ∙ ap (λ (k : ℕ). k ∷ r.serving ∷ []) (ap (λ (k : ℕ). (k + 1) % 2 ^ 64) word ∙ mod_small (r.ticket + 1) (omega arith));
+          homes = r.homes;
+          fits = r.fits;
+          begins = r.begins;
+          served = r.served;
+          tickets = λ k. omega (arith, sum_set (λ (u : V). times_ticket k u.ticket) s.views id v w at, r.tickets k, before k, within_next r.serving r.ticket k (omega arith), ap (λ (t : ℕ). times_ticket k (Some t)) word);
+          drawn = omega (arith, sum_set (λ (u : V). count_of u.ticket) s.views id v w at);
+          places = λ p. omega (arith, sum_set (λ (u : V). times_at p u.own) s.views id v w at, r.places p);
+          made = omega (arith, sum_set (λ (u : V). length u.own) s.views id v w at);
+          calls = omega (arith, sum_set (λ (u : V). length u.own + u.left) s.views id v w at);
+          each = each_after (Knows origin r.log r.serving) s.views id w
+              (let k = r.each id v at in record { same = k.same; seen = k.seen; told = k.told; own = k.own; may_call = some_left; turn = subst (λ (o : Option (List E × ℕ)). IfSome o (λ h. (Some found ≡ Some r.serving) × (h.0 ≡ r.log) × (origin.calls ≤ h.1 + r.serving))) (sym no_hold) tt })
+              (λ j u _ there. r.each j u there);
+          at_home = home_stays r.log r.serving s.views r.slot id v w at no_hold no_hold r.at_home;
+        },
+        refl,
+      )
 
   -- a load after which the view is w, which knows no more turn than before
   loads : (s : St) (r : Rule s) (i id : ℕ) (v w : V) (c : List (ℕ × Option O)) → get_elem? s.views id ≡ some v → Knows origin r.log r.serving w → w.ticket ≡ v.ticket → w.own ≡ v.own → w.left ≡ v.left → v.held ≡ None → w.held ≡ None
@@ -131,43 +138,48 @@ module _ {O E B : Type 0} (entries : O → List E) (spare : O → ℕ) (basis : 
       let word : found ≡ r.serving = ap (λ (ws : List ℕ). get_or ws 1 0) r.words in
       let Tells : ℕ → Knower O E B → Type 0 = λ x m. Looks entries spare basis (step n 1 0 0 none) (v, c) x m in
       let tells : (m : Knower O E B) → ((found ≡ k) → TakesOut entries spare basis (v, c) m) → ((found ≢ k) → m ≡ (v, c)) → Tells found m = λ m hit miss.
-          subst (λ (o : Option ℕ). IfSome o (λ t. MatchBool (found == t) (TakesOut entries spare basis (v, c) m) (m ≡ (v, c)))) (sym ticket)
-          (dite (ℕ_discrete found k) (λ e. subst (λ (b : Bool). MatchBool b (TakesOut entries spare basis (v, c) m) (m ≡ (v, c))) (sym (eq-eqb found k e)) (hit e))
-          (λ ne. subst (λ (b : Bool). MatchBool b (TakesOut entries spare basis (v, c) m) (m ≡ (v, c))) (sym (ne_eqb found k ne)) (miss ne))) in
+      subst (λ (o : Option ℕ). IfSome o (λ t. MatchBool (found == t) (TakesOut entries spare basis (v, c) m) (m ≡ (v, c)))) (sym ticket)
+      (dite (ℕ_discrete found k) (λ e. subst (λ (b : Bool). MatchBool b (TakesOut entries spare basis (v, c) m) (m ≡ (v, c))) (sym (eq-eqb found k e)) (hit e))
+      (λ ne. subst (λ (b : Bool). MatchBool b (TakesOut entries spare basis (v, c) m) (m ≡ (v, c))) (sym (ne_eqb found k ne)) (miss ne))) in
       dite (ℕ_discrete found k)
       (λ e.
-          let mine : v.ticket ≡ Some r.serving = ticket ∙ ap (λ (x : ℕ). Some x) (sym e ∙ word) in
-          let home = is_home s r id v at mine no_hold r.slot r.at_home in
-          let object : O = home.0 in
-          let w : V = taking v (entries object) (spare object) in
-          let calls = r.calls in let made = r.made in
-          let enough : origin.calls ≤ spare object + r.serving = home.4 in
-          let known = r.each id v at in
-          let may : 0 < v.left = let m = known.may_call in let one = ap count_of ticket in omega arith in
-          let some_left : r.serving < origin.calls =
-              let less = sum_less (λ (u : V). length u.own) (λ (u : V). length u.own + u.left) s.views id v at (omega arith) (λ j u there. omega arith) in omega arith in
-          (w, takes 0 (Some object), ap (λ (hs : List (maybe.Option (Option O))). get_elem? hs 0) r.homes ∙ ap (λ (h : maybe.Option (Option O)). some h) home.1, record {
-            log = r.log;
-            ticket = r.ticket;
-            serving = r.serving;
-            slot = none;
-            words = set-get_or s.words 1 0 ∙ r.words;
-            homes = ap (λ (hs : List (maybe.Option (Option O))). set hs 0 none) r.homes;
-            fits = r.fits;
-            begins = r.begins;
-            served = r.served;
-            tickets = λ j. omega (arith, sum_set (λ (u : V). times_ticket j u.ticket) s.views id v w at, r.tickets j);
-            drawn = let d = r.drawn in omega (arith, sum_set (λ (u : V). count_of u.ticket) s.views id v w at);
-            places = λ p. omega (arith, sum_set (λ (u : V). times_at p u.own) s.views id v w at, r.places p);
-            made = omega (arith, sum_set (λ (u : V). length u.own) s.views id v w at);
-            calls = omega (arith, sum_set (λ (u : V). length u.own + u.left) s.views id v w at);
-            each = each_after (Knows origin r.log r.serving) s.views id w
-                record { same = known.same; seen = known.seen; told = known.told; own = known.own; may_call = known.may_call; turn = (mine, home.2, enough) }
-                (λ j u _ there. r.each j u there);
-            at_home = (id, w, here_after s.views id v w at, refl);
-          }, tells (w, (0, Some object) ∷ c)
-              (λ _. (object, refl, subst (λ (l : List E). StartsWith l v.seen) (sym home.2) known.seen, of_origin v.origin object home.3 known.same, omega arith))
-              (λ ne. absurd (ne e))))
+      let mine : v.ticket ≡ Some r.serving = ticket ∙ ap (λ (x : ℕ). Some x) (sym e ∙ word) in
+      let home = is_home s r id v at mine no_hold r.slot r.at_home in
+      let object : O = home.0 in
+      let w : V = taking v (entries object) (spare object) in
+      let calls = r.calls in let made = r.made in
+      let enough : origin.calls ≤ spare object + r.serving = home.4 in
+      let known = r.each id v at in
+      let may : 0 < v.left = let m = known.may_call in let one = ap count_of ticket in omega arith in
+      let some_left : r.serving < origin.calls =
+      let less = sum_less (λ (u : V). length u.own) (λ (u : V). length u.own + u.left) s.views id v at (omega arith) (λ j u there. omega arith) in omega arith in (
+        w,
+        takes 0 (Some object),
+        ap (λ (hs : List (maybe.Option (Option O))). get_elem? hs 0) r.homes ∙ ap (λ (h : maybe.Option (Option O)). some h) home.1,
+        record {
+          log = r.log;
+          ticket = r.ticket;
+          serving = r.serving;
+          slot = none;
+          words = set-get_or s.words 1 0 ∙ r.words;
+          homes = ap (λ (hs : List (maybe.Option (Option O))). set hs 0 none) r.homes;
+          fits = r.fits;
+          begins = r.begins;
+          served = r.served;
+          tickets = λ j. omega (arith, sum_set (λ (u : V). times_ticket j u.ticket) s.views id v w at, r.tickets j);
+          drawn = let d = r.drawn in omega (arith, sum_set (λ (u : V). count_of u.ticket) s.views id v w at);
+          places = λ p. omega (arith, sum_set (λ (u : V). times_at p u.own) s.views id v w at, r.places p);
+          made = omega (arith, sum_set (λ (u : V). length u.own) s.views id v w at);
+          calls = omega (arith, sum_set (λ (u : V). length u.own + u.left) s.views id v w at);
+          each = each_after (Knows origin r.log r.serving) s.views id w
+              record { same = known.same; seen = known.seen; told = known.told; own = known.own; may_call = known.may_call; turn = (mine, home.2, enough) }
+              (λ j u _ there. r.each j u there);
+          at_home = (id, w, here_after s.views id v w at, refl);
+        },
+        tells (w, (0, Some object) ∷ c)
+            (λ _. (object, refl, subst (λ (l : List E). StartsWith l v.seen) (sym home.2) known.seen, of_origin v.origin object home.3 known.same, omega arith))
+            (λ ne. absurd (ne e)),
+      ))
       (λ ne. (v, keeps, tt, loads s r 1 id v v c at (r.each id v at) refl refl refl no_hold no_hold, tells (v, c) (λ e. absurd (ne e)) (λ _. refl)))
     where
       of_origin : (o : Option (Origin E B)) (object : O) → basis object ≡ origin.basis → IfSome o (λ x. x ≡ origin) → IfSome o (λ x. basis object ≡ x.basis)
@@ -235,51 +247,63 @@ module _ {O E B : Type 0} (entries : O → List E) (spare : O → ℕ) (basis : 
       let less : r.serving < r.ticket = inside.1 in
       let made = r.made in let drawn = r.drawn in let calls = r.calls in let fits = r.fits in let served = r.served in
       let most : sum_by (λ (u : V). length u.own + count_of u.ticket) s.views ≤ sum_by (λ (u : V). length u.own + u.left) s.views =
-          sum_mono (λ (u : V). length u.own + count_of u.ticket) (λ (u : V). length u.own + u.left) s.views (λ j u there. let m = (r.each j u there).may_call in omega arith) in
+      sum_mono (λ (u : V). length u.own + count_of u.ticket) (λ (u : V). length u.own + u.left) s.views (λ j u there. let m = (r.each j u there).may_call in omega arith) in
       let parts = sum_add (λ (u : V). length u.own) (λ (u : V). count_of u.ticket) s.views in
       let bound : r.ticket ≤ origin.calls = omega arith in
       let whole : entries object ≡ log = adds ∙ ap (λ (l : List E). l ++ entry ∷ []) turn.1 in
       let one_more : length w.own ≡ length v.own + 1 = length-append v.own ((length list, entry) ∷ []) in
       let idle : (j : ℕ) (u : V) → j ≢ id → get_elem? s.views j ≡ some u → u.held ≡ None = λ j u other there. none_or u.held
-          (λ t. one_holder s r j id u v there at (has_turn u.held u.ticket r.log r.serving t (r.each j u there).turn) mine other) in
-      (w, gives, tt, record {
-        log = log;
-        ticket = r.ticket;
-        serving = r.serving + 1;
-        slot = some (Some object);
-        words = ap (λ (ws : List ℕ). set ws 1 ((found + 1) % 2 ^ 64)) r.words ∙ ap (λ (k : ℕ). r.ticket ∷ k ∷ []) (ap (λ (k : ℕ). (k + 1) % 2 ^ 64) word ∙ mod_small (r.serving + 1) (omega arith));
-        homes = ap (λ (hs : List (maybe.Option (Option O))). set hs 0 (some (Some object))) r.homes;
-        fits = r.fits;
-        begins = begins_longer r.log origin.opening entry r.begins;
-        served = omega arith;
-        tickets = λ k. omega (arith, sum_set (λ (u : V). times_ticket k u.ticket) s.views id v w at, r.tickets k, within_less r.serving r.ticket k less, ap (times_ticket k) mine);
-        drawn = omega (arith, sum_set (λ (u : V). count_of u.ticket) s.views id v w at);
-        places = λ p. omega (arith, sum_set (λ (u : V). times_at p u.own) s.views id v w at, r.places p, sum_by_push (λ (c : ℕ × E). cond (eqb c.0 p) 1 0) v.own (length list, entry),
-            within_next (length origin.opening) (length r.log) p (omega arith), ap (λ (l : ℕ). times_ticket p (Some l)) long, ap (λ (l : ℕ). once_within (length origin.opening) l p) longer);
-        made = omega (arith, sum_set (λ (u : V). length u.own) s.views id v w at);
-        calls = omega (arith, sum_set (λ (u : V). length u.own + u.left) s.views id v w at);
-        each = each_after (Knows origin log (r.serving + 1)) s.views id w
-            record {
-              same = known.same;
-              seen = ([], sym (append-nil log) ∙ ap (λ (l : List E). (l ++ entry ∷ []) ++ []) (sym turn.1));
-              told = begins_longer r.log v.told entry known.told;
-              own = All-push (λ (c : ℕ × E). slice_get log c.0 ≡ Some c.1) v.own (length list, entry) (stand_longer r.log (entry ∷ []) v.own known.own)
-                  (slice_get-get_or log (length list) entry (omega arith) ∙ ap (λ (x : E). Some x) (ap (λ (l : ℕ). get_or log l entry) long ∙ get_or-append_seam r.log entry [] entry));
-              may_call = omega arith;
-              turn = tt;
-            }
-            (λ j u other there. let k = r.each j u there in record {
-              same = k.same;
-              seen = begins_longer r.log u.seen entry k.seen;
-              told = begins_longer r.log u.told entry k.told;
-              own = stand_longer r.log (entry ∷ []) u.own k.own;
-              may_call = k.may_call;
-              turn = idle_turn log (r.serving + 1) u.ticket u.held (idle j u other there);
-            });
-        at_home = (object, refl, whole, basis_there v.origin (basis object) live same_basis known.same, omega arith, each_after (λ (u : V). u.held ≡ None) s.views id w refl idle);
-      }, subst (Tells v list entry object) (sym holds)
-          (λ object' entry' is more. let same : object ≡ object' = same_hand object object' is in
-          let e : entry ≡ entry' = last_same list entry entry' (sym adds ∙ (ap entries same ∙ more)) in ap (λ (x : E). (passing v list x, no_slot)) e))
+      (λ t. one_holder s r j id u v there at (has_turn u.held u.ticket r.log r.serving t (r.each j u there).turn) mine other) in (
+        w,
+        gives,
+        tt,
+        record {
+          log = log;
+          ticket = r.ticket;
+          serving = r.serving + 1;
+          slot = some (Some object);
+          words = ap (λ (ws : List ℕ). set ws 1 ((found + 1) % 2 ^ 64)) r.words ∙ ap (λ (k : ℕ). r.ticket ∷ k ∷ []) (ap (λ (k : ℕ). (k + 1) % 2 ^ 64) word ∙ mod_small (r.serving + 1) (omega arith));
+          homes = ap (λ (hs : List (maybe.Option (Option O))). set hs 0 (some (Some object))) r.homes;
+          fits = r.fits;
+          begins = begins_longer r.log origin.opening entry r.begins;
+          served = omega arith;
+          tickets = λ k. omega (arith, sum_set (λ (u : V). times_ticket k u.ticket) s.views id v w at, r.tickets k, within_less r.serving r.ticket k less, ap (times_ticket k) mine);
+          drawn = omega (arith, sum_set (λ (u : V). count_of u.ticket) s.views id v w at);
+          places = λ p. omega (
+            arith,
+            sum_set (λ (u : V). times_at p u.own) s.views id v w at,
+            r.places p,
+            sum_by_push (λ (c : ℕ × E). cond (eqb c.0 p) 1 0) v.own (length list, entry),
+            within_next (length origin.opening) (length r.log) p (omega arith),
+            ap (λ (l : ℕ). times_ticket p (Some l)) long,
+            ap (λ (l : ℕ). once_within (length origin.opening) l p) longer,
+          );
+          made = omega (arith, sum_set (λ (u : V). length u.own) s.views id v w at);
+          calls = omega (arith, sum_set (λ (u : V). length u.own + u.left) s.views id v w at);
+          each = each_after (Knows origin log (r.serving + 1)) s.views id w
+              record {
+                same = known.same;
+                seen = ([], sym (append-nil log) ∙ ap (λ (l : List E). (l ++ entry ∷ []) ++ []) (sym turn.1));
+                told = begins_longer r.log v.told entry known.told;
+                own = All-push (λ (c : ℕ × E). slice_get log c.0 ≡ Some c.1) v.own (length list, entry) (stand_longer r.log (entry ∷ []) v.own known.own)
+                    (slice_get-get_or log (length list) entry (omega arith) ∙ ap (λ (x : E). Some x) (ap (λ (l : ℕ). get_or log l entry) long ∙ get_or-append_seam r.log entry [] entry));
+                may_call = omega arith;
+                turn = tt;
+              }
+              (λ j u other there. let k = r.each j u there in record {
+                same = k.same;
+                seen = begins_longer r.log u.seen entry k.seen;
+                told = begins_longer r.log u.told entry k.told;
+                own = stand_longer r.log (entry ∷ []) u.own k.own;
+                may_call = k.may_call;
+                turn = idle_turn log (r.serving + 1) u.ticket u.held (idle j u other there);
+              });
+          at_home = (object, refl, whole, basis_there v.origin (basis object) live same_basis known.same, omega arith, each_after (λ (u : V). u.held ≡ None) s.views id w refl idle);
+        },
+        subst (Tells v list entry object) (sym holds)
+            (λ object' entry' is more. let same : object ≡ object' = same_hand object object' is in
+            let e : entry ≡ entry' = last_same list entry entry' (sym adds ∙ (ap entries same ∙ more)) in ap (λ (x : E). (passing v list x, no_slot)) e),
+      )
 
   only_seat : (v u : V) (j : ℕ) → get_elem? (v ∷ []) j ≡ some u → v ≡ u
   only_seat v u zero at = some-injective v u at
@@ -312,3 +336,15 @@ module _ {O E B : Type 0} (entries : O → List E) (spare : O → ℕ) (basis : 
     };
     at_home = (object, refl, list, same, omega arith, λ j u at. subst (λ (x : V). x.held ≡ None) (only_seat v u j at) refl);
   }
+
+  -- the same, of a seat with the object in its hand
+  pub passes_home : (n id : ℕ) (m : Knower O E B) (v : V) (object : O) → m ≡ (v, in_hand object) → is_some v.origin ≡ true → is_some v.held ≡ true → AddsOne (list_in v) (entries object)
+      → spare_in v ≤ spare object + 1 → basis_in v ≡ Some (basis object)
+      → Allows Rule n id m 1 (λ k. (k + 1) % 2 ^ 64) (Passes entries spare basis (step n 1 1 0 none) m)
+  passes_home n id m v object is live out adds few same =
+      let at : Knower O E B → Type 0 = λ k. Allows Rule n id k 1 (λ x. (x + 1) % 2 ^ 64) (Passes entries spare basis (step n 1 1 0 none) k) in
+      subst at (sym is) (passes n id v (list_in v) (spare_in v) adds.0 object (some_of v.held ([], 0) out) live (if_mapped (λ (o : Origin E B). o.basis) v.origin (basis object) same) adds.1 few)
+
+  pub starts_with : (object : O) (slots : List (Option O)) → slots ≡ Some object ∷ [] → entries object ≡ origin.opening → basis object ≡ origin.basis → origin.calls ≤ spare object → origin.calls < 2 ^ 64
+      → Rule (opening (0 ∷ 0 ∷ []) slots (opening_view origin))
+  starts_with object slots is list same room fits = let P : List (Option O) → Type 0 = λ l. Rule (opening (0 ∷ 0 ∷ []) l (opening_view origin)) in subst P (sym is) (starts object list same room fits)

@@ -1,3 +1,4 @@
 pub mod Keeps
+pub mod Options
 pub mod Sums
 pub mod Told

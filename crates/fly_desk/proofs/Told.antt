@@ -1,7 +1,10 @@
 -- What a step told, at the ticket or the turn that the pass has.
-use Rattle.std.proofs.Common.{◌≡◌, ◌≢◌, ℕ, List, [], ◌∷◌, ◌++◌, Bool, Option, Some, None, IfSome, MatchBool, ◌==◌, subst, eq-eqb, ne_eqb}
+use Rattle.std.proofs.Common.{◌≡◌, ◌≢◌, ℕ, List, [], ◌∷◌, ◌++◌, Bool, Option, Some, None, IfSome, MatchBool, ◌==◌, subst, eq-eqb, ne_eqb, is_some, true, refl}
 use Rattle.atomic_table.specs.Table.{Step, step}
 use mathlib.Core.Option.{none}
+use Rattle.fly_desk.specs.declared.view.View.{View}
+use Rattle.fly_desk.specs.Turns.{list_in, spare_in}
+use Rattle.fly_desk.proofs.Options.{some_of}
 use Rattle.fly_desk.specs.Steps.{Knower, passing, TakesOut, Looks, Passes}
 
 module _ {O E B : Type 0} (entries : O → List E) (spare : O → ℕ) (basis : O → B) where
@@ -18,11 +21,17 @@ module _ {O E B : Type 0} (entries : O → List E) (spare : O → ℕ) (basis : 
   pub not_served : (m m' : Knower O E B) (n k : ℕ) → m.0.ticket ≡ Some k → Looks entries spare basis anywhere m n m' → n ≢ k → m' ≡ m
   not_served m m' n k is told other = let P : Bool → Type 0 = λ b. MatchBool b (TakesOut entries spare basis m m') (m' ≡ m) in subst P (ne_eqb n k other) (looked m m' n k is told)
 
-  pub passed : (m m' : Knower O E B) (n room : ℕ) (list : List E) → m.0.held ≡ Some (list, room) → Passes entries spare basis anywhere m n m'
+  pub passed : (m m' : Knower O E B) (room : ℕ) (list : List E) → m.0.held ≡ Some (list, room) → Passes entries spare basis anywhere m 0 m'
       → (object : O) (entry : E) → m.1 ≡ (0, Some object) ∷ [] → entries object ≡ list ++ entry ∷ [] → m' ≡ (passing m.0 list entry, [])
-  passed m m' n room list is told object entry hand adds =
+  passed m m' room list is told object entry hand adds =
       let P : Option (List E × ℕ) → Type 0 = λ o. IfSome o (λ h. (x : O) (e : E) → m.1 ≡ (0, Some x) ∷ [] → entries x ≡ h.0 ++ e ∷ [] → Goes m m' h.0 e) in
       subst P is told object entry hand adds
     where
       Goes : Knower O E B → Knower O E B → List E → E → Type 0
       Goes a b l e = b ≡ (passing a.0 l e, [])
+
+  pub passed_home : (m : Knower O E B) (v : View E B) (m' : Knower O E B) (object : O) → m ≡ (v, (0, Some object) ∷ []) → is_some v.held ≡ true → Passes entries spare basis anywhere m 0 m'
+      → (entry : E) → entries object ≡ list_in v ++ entry ∷ [] → m' ≡ (passing v (list_in v) entry, [])
+  passed_home m v m' object is out told entry adds =
+      let P : Knower O E B → Type 0 = λ k. Passes entries spare basis anywhere k 0 m' in
+      passed (v, (0, Some object) ∷ []) m' (spare_in v) (list_in v) (some_of v.held ([], 0) out) (subst P is told) object entry refl adds

@@ -1,30 +1,15 @@
 //! The lock.
-ghost use Rattle.std.specs.Prelude.{◌≡◌, ◌+◌, ◌<◌, ◌≤◌, ◌∷◌, [], Some, None, IfSome};
-ghost use Rattle.fly_desk.specs.History.{StartsWith};
-ghost use Rattle.fly_desk.specs.Steps.{taking};
+ghost use Rattle.std.specs.Prelude.{◌≡◌, ◌∷◌, [], Some};
 
 use crate::pass::Place;
-use crate::rule::{Draw, Look, OneHistory, PassOn, Start};
+use crate::rule::{OneHistory, Start};
 use crate::view::View;
-use crate::{Annals, Pass, Turn};
-use atomic_table::{Shared, Table};
+use crate::{Annals, Pass};
+use atomic_table::{Refused, Table};
 use std::alloc::Global;
-use std::sync::Wait;
+use std::snapshot::Snapshot;
 
-// The word of the next ticket, and that of the ticket that is served.
-const TICKET: usize = 0;
-
-const SERVING: usize = 1;
-
-// The place of the object.
-const OBJECT: usize = 0;
-
-type Board<O> = Shared<
-    Option<O>,
-    View<<O as Annals>::Entry, <O as Annals>::Basis>,
-    Start<O>,
-    OneHistory<O>,
->;
+mod turns;
 
 /// A ticket lock over an object with a growing list.
 #[derive(Drop)]
@@ -39,27 +24,45 @@ pub struct Desk<O: Annals> {
     ghost sized: { (table.shared.table_id.words ≡ 2) × (table.shared.table_id.slots ≡ 1) },
 }
 
-// Waits until the ticket is served, and takes the object out. It sleeps on the served ticket's word between two looks.
-fn wait_for<O: Annals, R: Wait>(
-    rt: &R,
-    board: &Board<O>,
-    seat: &mut Place<O>,
-    ticket: u64,
-) -> O
-    requires table { (seat.old.table_id ≡ board.now.table_id) × (board.now.table_id.words ≡ 2) × (board.now.table_id.slots ≡ 1) }
-    requires waits { (seat.old.me.0.ticket ≡ Some ticket) × (seat.old.me.0.held ≡ None) × (seat.old.me.1 ≡ []) }
-    ensures place { (seat.new.table_id ≡ seat.old.table_id) × (seat.new.id ≡ seat.old.id) }
-    ensures turn { seat.new.me ≡ (taking seat.old.me.0 (O.entries result) (O.spare result), (0, None) ∷ []) }
-    ensures seen { StartsWith (O.entries result) seat.old.me.0.seen }
-    ensures basis { IfSome seat.old.me.0.origin (λ o. O.basis result ≡ o.basis) }
-    ensures spare { 0 < O.spare result }
+/// Why no desk was started. The object comes back.
+#[derive(Drop)]
+pub enum StartFault<O> {
+    NoMemory(O),
+}
+
+// The object of a list that has just that one.
+fn only_object<O>(mut slots: Vec<Option<O>>) -> O
+    requires { (object : O) × (slots.items ≡ Some object ∷ []) }
+    ensures { slots.items ≡ Some result ∷ [] }
 {
-    for _ in rt.forever() {
-        let serving = board.load::<Look>(seat, SERVING);
-        if serving == ticket {
-            return board.exchange(seat, OBJECT, None).unwrap();
+    let object = slots.pop().unwrap().unwrap();
+    slots.destroy_empty();
+    object
+}
+
+impl<O: Annals> Desk<O> {
+    ghost use Rattle.std.specs.Prelude.{◌≡◌, ◌≤◌, [], false, Some, IfOk, IfErr};
+    ghost use Rattle.fly_desk.specs.declared.desk.StartFault.TheVariants.{NoMemory};
+    ghost use Rattle.fly_desk.specs.Passes.{IsOf, IsNew};
+
+    /// A desk over the object, and a pass with all the calls.
+    pub fn start(alloc: Global, object: O, calls: u64) -> Result<(Desk<O>, Pass<O>), StartFault<O>>
+        requires { calls ≤ O.spare object }
+        ensures desk { IfOk result (λ t. IsOf t.0 t.1) }
+        ensures pass { IfOk result (λ t. IsNew t.1 (O.entries object) (O.basis object) calls) }
+        ensures refused { IfErr result (λ fault. fault ≡ NoMemory object) }
+    {
+        let about = Start {
+            object: Snapshot::of(&object),
+            calls,
+        };
+        let Ok(mut slots) = Vec::with_capacity(alloc, 1) else {
+            return Err(StartFault::NoMemory(object));
+        };
+        slots.push_reserved(Some(object));
+        match Table::new(alloc, &[0, 0], slots, &about) {
+            Ok((table, seat)) => Ok((Desk { table }, Pass { seat, left: calls })),
+            Err(Refused { slots }) => Err(StartFault::NoMemory(only_object(slots))),
         }
-        board.park(rt, SERVING, (serving & 0xffff_ffff) as u32);
     }
-    unreachable!()
 }

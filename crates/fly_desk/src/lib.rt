@@ -3,14 +3,13 @@
 
 mod annals;
 mod desk;
-
 mod pass;
 mod rule;
 mod turn;
 mod view;
+mod wait;
 
 pub use annals::Annals;
 pub use desk::Desk;
-
 pub use pass::Pass;
 pub use turn::Turn;

@@ -1,5 +1,6 @@
 //! What a worker holds.
-ghost use Rattle.std.specs.Prelude.{◌≡◌, is_some, true};
+ghost use Rattle.std.specs.Prelude.{◌≡◌, ◌≤◌, is_some, true};
+ghost use Rattle.fly_desk.specs.History.{count_of};
 ghost use Rattle.fly_desk.specs.Turns.{slots_out};
 
 use crate::Annals;
@@ -14,6 +15,7 @@ pub struct Pass<O: Annals> {
     pub(crate) left: u64,
     ghost live: { is_some seat.me.0.origin ≡ true },
     ghost counted: { left ≡ seat.me.0.left },
+    ghost may_call: { count_of seat.me.0.ticket ≤ left },
     ghost drawn: { is_some seat.me.0.ticket ≡ is_some seat.me.0.held },
     ghost slots: { seat.me.1 ≡ slots_out seat.me.0.held },
 }

@@ -11,6 +11,15 @@ pub struct Start<O> {
     pub calls: u64,
 }
 
+impl<O> Drop for Start<O> {
+    fn drop(self) {
+        let Self {
+            object: _,
+            calls: _,
+        } = self;
+    }
+}
+
 /// The rule of a desk.
 pub struct OneHistory<O> {
     of: PhantomData<O>,

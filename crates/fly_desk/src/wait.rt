@@ -1,0 +1,69 @@
+//! The steps of a turn.
+ghost use Rattle.std.specs.Prelude.{◌≡◌, ◌+◌, ◌<◌, ◌≤◌, ◌∷◌, ◌++◌, [], true, is_some, Some, None, IfSome};
+ghost use Rattle.fly_desk.specs.History.{StartsWith};
+ghost use Rattle.fly_desk.specs.Steps.{taking, passing};
+ghost use Rattle.fly_desk.specs.Turns.{AddsOne, list_in, spare_in, basis_in};
+
+use crate::Annals;
+use crate::pass::Place;
+use crate::rule::{Look, OneHistory, PassOn, Start};
+use crate::view::View;
+use atomic_table::Shared;
+use std::sync::Wait;
+
+/// The word of the next ticket.
+pub(crate) const TICKET: usize = 0;
+
+// The word of the ticket that is served.
+const SERVING: usize = 1;
+
+// The place of the object.
+const OBJECT: usize = 0;
+
+pub(crate) type Board<O> = Shared<
+    Option<O>,
+    View<<O as Annals>::Entry, <O as Annals>::Basis>,
+    Start<O>,
+    OneHistory<O>,
+>;
+
+/// Waits until the ticket is served, and takes the object out. It sleeps on the served ticket's word between two looks.
+pub(crate) fn wait_for<O: Annals, R: Wait>(
+    rt: &R,
+    board: &Board<O>,
+    seat: &mut Place<O>,
+    ticket: u64,
+) -> O
+    requires table { (seat.old.table_id ≡ board.now.table_id) × (board.now.table_id.words ≡ 2) × (board.now.table_id.slots ≡ 1) }
+    requires waits { (seat.old.me.0.ticket ≡ Some ticket) × (seat.old.me.0.held ≡ None) × (seat.old.me.1 ≡ []) }
+    ensures place { (seat.new.table_id ≡ seat.old.table_id) × (seat.new.id ≡ seat.old.id) }
+    ensures turn { seat.new.me ≡ (taking seat.old.me.0 (O.entries result) (O.spare result), (0, None) ∷ []) }
+    ensures seen { StartsWith (O.entries result) seat.old.me.0.seen }
+    ensures basis { IfSome seat.old.me.0.origin (λ o. O.basis result ≡ o.basis) }
+    ensures spare { 0 < O.spare result }
+{
+    for _ in rt.forever() {
+        let serving = board.load::<Look>(seat, SERVING);
+        if serving == ticket {
+            return board.exchange(seat, OBJECT, None).unwrap();
+        }
+        board.park(rt, SERVING, (serving & 0xffff_ffff) as u32);
+    }
+    unreachable!()
+}
+
+/// Puts the object home, serves the next ticket and wakes whoever waits for it.
+pub(crate) fn bring_home<O: Annals>(board: &Board<O>, seat: &mut Place<O>, object: O)
+    requires table { (seat.old.table_id ≡ board.now.table_id) × (board.now.table_id.words ≡ 2) × (board.now.table_id.slots ≡ 1) }
+    requires turn { (is_some seat.old.me.0.origin ≡ true) × (is_some seat.old.me.0.held ≡ true) × (seat.old.me.1 ≡ (0, None) ∷ []) }
+    requires entry { AddsOne (list_in seat.old.me.0) (O.entries object) }
+    requires spare { spare_in seat.old.me.0 ≤ O.spare object + 1 }
+    requires basis { basis_in seat.old.me.0 ≡ Some (O.basis object) }
+    ensures place { (seat.new.table_id ≡ seat.old.table_id) × (seat.new.id ≡ seat.old.id) }
+    ensures turn { (entry : O.Entry) → O.entries object ≡ list_in seat.old.me.0 ++ entry ∷ [] → seat.new.me ≡ (passing seat.old.me.0 (list_in seat.old.me.0) entry, []) }
+{
+    let emptied = board.exchange(seat, OBJECT, Some(object));
+    let None = emptied else { unreachable!() };
+    board.fetch_add::<PassOn>(seat, SERVING, 1);
+    board.wake_all(SERVING);
+}
