@@ -31,14 +31,14 @@ module _ {O E B : Type 0} (entries : O → List E) (spare : O → ℕ) (basis : 
   Rule = IsDesk entries spare basis origin
 
   -- what holds of each view holds after a change of one
-  each_after : (P : V → Type 0) (vs : List V) (id : ℕ) (w : V) → P w → ((j : ℕ) (u : V) → j ≢ id → get_elem? vs j ≡ some u → P u) → (j : ℕ) (u : V) → get_elem? (set vs id w) j ≡ some u → P u
+  pub each_after : (P : V → Type 0) (vs : List V) (id : ℕ) (w : V) → P w → ((j : ℕ) (u : V) → j ≢ id → get_elem? vs j ≡ some u → P u) → (j : ℕ) (u : V) → get_elem? (set vs id w) j ≡ some u → P u
   each_after P vs id w mine others j u at = ⊎_elim (λ (t : (j ≡ id) × (w ≡ u)). subst P t.1 mine) (λ (t : (j ≢ id) × (get_elem? vs j ≡ some u)). others j u t.0 t.1) (at_set vs id j w u at)
 
-  no_turn : (o : Option (List E × ℕ)) → o ≡ None → is_some o ≡ true → ⊥
+  pub no_turn : (o : Option (List E × ℕ)) → o ≡ None → is_some o ≡ true → ⊥
   no_turn o e t = true≢false (sym t ∙ ap is_some e)
 
   -- the slot stays where a view without the turn stays without it
-  home_stays : (log : List E) (serving : ℕ) (vs : List V) (h : maybe.Option (Option O)) (id : ℕ) (v w : V) → get_elem? vs id ≡ some v → v.held ≡ None → w.held ≡ None
+  pub home_stays : (log : List E) (serving : ℕ) (vs : List V) (h : maybe.Option (Option O)) (id : ℕ) (v w : V) → get_elem? vs id ≡ some v → v.held ≡ None → w.held ≡ None
       → IsAtHome entries spare basis origin log serving vs h → IsAtHome entries spare basis origin log serving (set vs id w) h
   home_stays log serving vs maybe.none id v w at before after out =
       (out.0, out.1, set_else vs id out.0 w (λ e. no_turn v.held before (ap (λ (u : V). is_some u.held) (some-injective v out.1 (sym at ∙ (ap (λ (k : ℕ). get_elem? vs k) (sym e) ∙ out.2))) ∙ out.3)) ∙ out.2, out.3)
@@ -88,7 +88,7 @@ module _ {O E B : Type 0} (entries : O → List E) (spare : O → ℕ) (basis : 
       )
 
   -- a load after which the view is w, which knows no more turn than before
-  loads : (s : St) (r : Rule s) (i id : ℕ) (v w : V) (c : List (ℕ × Option O)) → get_elem? s.views id ≡ some v → Knows origin r.log r.serving w → w.ticket ≡ v.ticket → w.own ≡ v.own → w.left ≡ v.left → v.held ≡ None → w.held ≡ None
+  pub loads : (s : St) (r : Rule s) (i id : ℕ) (v w : V) (c : List (ℕ × Option O)) → get_elem? s.views id ≡ some v → Knows origin r.log r.serving w → w.ticket ≡ v.ticket → w.own ≡ v.own → w.left ≡ v.left → v.held ≡ None → w.held ≡ None
       → Rule (stepped s i (get_or s.words i 0) id c w keeps)
   loads s r i id v w c at known ticket own left before after = record {
     log = r.log;
@@ -119,7 +119,7 @@ module _ {O E B : Type 0} (entries : O → List E) (spare : O → ℕ) (basis : 
       let a = one v.ticket mine in let b = one u.ticket theirs in
       omega arith
 
-  has_turn : (o : Option (List E × ℕ)) (t : Option ℕ) (log : List E) (serving : ℕ) → is_some o ≡ true → IfSome o (λ h. (t ≡ Some serving) × (h.0 ≡ log) × (origin.calls ≤ h.1 + serving)) → t ≡ Some serving
+  pub has_turn : (o : Option (List E × ℕ)) (t : Option ℕ) (log : List E) (serving : ℕ) → is_some o ≡ true → IfSome o (λ h. (t ≡ Some serving) × (h.0 ≡ log) × (origin.calls ≤ h.1 + serving)) → t ≡ Some serving
   has_turn None t log serving e h = absurd (true≢false (sym e))
   has_turn (Some x) t log serving e h = h.0
 
@@ -189,11 +189,11 @@ module _ {O E B : Type 0} (entries : O → List E) (spare : O → ℕ) (basis : 
   abbrev Turns : List E → ℕ → Option ℕ → Option (List E × ℕ) → Type 0
   Turns log serving t o = IfSome o (λ h. (t ≡ Some serving) × (h.0 ≡ log) × (origin.calls ≤ h.1 + serving))
 
-  none_or : (o : Option (List E × ℕ)) → (is_some o ≡ true → ⊥) → o ≡ None
+  pub none_or : (o : Option (List E × ℕ)) → (is_some o ≡ true → ⊥) → o ≡ None
   none_or None n = refl
   none_or (Some x) n = absurd (n refl)
 
-  idle_turn : (log : List E) (serving : ℕ) (t : Option ℕ) (o : Option (List E × ℕ)) → o ≡ None → Turns log serving t o
+  pub idle_turn : (log : List E) (serving : ℕ) (t : Option ℕ) (o : Option (List E × ℕ)) → o ≡ None → Turns log serving t o
   idle_turn log serving t o e = subst (Turns log serving t) (sym e) tt
 
   -- the basis of an origin that is there

@@ -1,4 +1,5 @@
 pub mod Keeps
 pub mod Options
+pub mod Dividing
 pub mod Sums
 pub mod Told

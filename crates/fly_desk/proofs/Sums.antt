@@ -87,3 +87,15 @@ within_some a b x some_of = (grind (arith, nat_tests), grind (arith, nat_tests))
 
 pub at_most_once : (a b x : ℕ) → once_within a b x ≤ 1
 at_most_once a b x = grind (arith, nat_tests)
+
+pub sum_nothing : {V : Type 0} (f : V → ℕ) (vs : List V) → ((j : ℕ) (u : V) → get_elem? vs j ≡ some u → f u ≡ 0) → sum_by f vs ≡ 0
+sum_nothing f [] all_none = refl
+sum_nothing f (x ∷ xs) all_none = omega (arith, sum_by-cons f x xs, all_none 0 x refl, sum_nothing f xs (λ j u there. all_none (suc j) u there))
+
+-- where the others add nothing, the sum is that of one view
+pub sum_only : {V : Type 0} (f : V → ℕ) (vs : List V) (i : ℕ) (v : V) → get_elem? vs i ≡ some v → ((j : ℕ) (u : V) → j ≢ i → get_elem? vs j ≡ some u → f u ≡ 0) → sum_by f vs ≡ f v
+sum_only f [] i v at none_other = absurd (some-ne-none v (sym at))
+sum_only f (x ∷ xs) zero v at none_other =
+    omega (arith, sum_by-cons f x xs, ap f (some-injective x v at), sum_nothing f xs (λ j u there. none_other (suc j) u (λ e. omega arith) there))
+sum_only f (x ∷ xs) (suc i) v at none_other =
+    omega (arith, sum_by-cons f x xs, none_other 0 x (λ e. omega arith) refl, sum_only f xs i v at (λ j u apart there. none_other (suc j) u (λ e. apart (omega arith)) there))

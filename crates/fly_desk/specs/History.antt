@@ -32,6 +32,13 @@ times_at place own = count_by (λ call. eqb call.0 place) own
 abbrev pub AtTheirPlaces : {E : Type 0} → List E → List (ℕ × E) → Type 0
 AtTheirPlaces list own = All (λ call. slice_get list call.0 ≡ Some call.1) own
 
+-- After the opening the list has just these calls, each once at its place
+pub record IsMadeOf {E : Type 0} (list opening : List E) (own : List (ℕ × E)) : Type 0 where
+  pub begins : StartsWith list opening
+  pub number : length list ≡ length opening + length own
+  pub once : (place : ℕ) → times_at place own ≡ once_within (length opening) (length list) place
+  pub at : AtTheirPlaces list own
+
 module _ {E B : Type 0} where
   -- the view of the pass that a desk starts with
   abbrev pub opening_view : Origin E B → View E B

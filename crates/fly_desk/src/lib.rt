@@ -5,6 +5,7 @@ mod annals;
 mod desk;
 mod pass;
 mod rule;
+mod shares;
 mod turn;
 mod view;
 mod wait;

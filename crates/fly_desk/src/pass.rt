@@ -3,9 +3,12 @@ ghost use Rattle.std.specs.Prelude.{◌≡◌, ◌≤◌, is_some, true};
 ghost use Rattle.fly_desk.specs.History.{count_of};
 ghost use Rattle.fly_desk.specs.Turns.{slots_out};
 
-use crate::Annals;
+use crate::shares::{cut, merge};
 use crate::view::View;
+use crate::{Annals, Desk};
 use atomic_table::Seat;
+use fly_types::NoMemory;
+use std::marker::Brand;
 
 pub(crate) type Place<O> = Seat<Option<O>, View<<O as Annals>::Entry, <O as Annals>::Basis>>;
 
@@ -27,12 +30,57 @@ impl<O: Annals> Drop for Pass<O> {
 }
 
 impl<O: Annals> Pass<O> {
-    ghost use Rattle.fly_desk.specs.Passes.{calls_left};
+    ghost use Rattle.std.specs.Prelude.{◌≡◌, ◌+◌, ◌≤◌, ◌++◌, [], false, IfOk, OnOk, OnErr};
+    ghost use Rattle.fly_desk.specs.History.{StartsWith};
+    ghost use Rattle.fly_desk.specs.Steps.{longer};
+    ghost use Rattle.fly_desk.specs.Passes.{IsOf, seen, own, calls_left, is_out, HasSameStart};
 
     /// How many calls are left.
     pub fn left(&self) -> u64
         ensures { result ≡ calls_left self.now }
     {
         self.left
+    }
+
+    /// A pass for another worker, which has seen as much and has these of the calls that are left.
+    pub fn split(&mut self, desk: &Desk<O>, calls: u64) -> Result<Pass<O>, NoMemory>
+        requires desk { IsOf desk.now self.old }
+        requires idle { is_out self.old ≡ false }
+        requires calls { calls ≤ calls_left self.old }
+        ensures desk { IsOf desk.now self.new × IfOk result (λ pass. IsOf desk.now pass) }
+        ensures idle { (is_out self.new ≡ false) × IfOk result (λ pass. is_out pass ≡ false) }
+        ensures seen { (seen self.new ≡ seen self.old) × IfOk result (λ pass. seen pass ≡ seen self.old) }
+        ensures own { (own self.new ≡ own self.old) × IfOk result (λ pass. own pass ≡ []) }
+        ensures left { OnOk result (calls_left self.new + calls ≡ calls_left self.old) × IfOk result (λ pass. calls_left pass ≡ calls) }
+        ensures start { HasSameStart self.new self.old × IfOk result (λ pass. HasSameStart pass self.old) }
+        ensures refused { OnErr result (calls_left self.new ≡ calls_left self.old) }
+    {
+        let seat = cut::<O, Brand>(&desk.table.shared, &mut self.seat, calls);
+        self.left -= calls;
+        Ok(Pass { seat, left: calls })
+    }
+
+    /// Takes in another pass: the longer of the two seen lists, the own calls and the calls left of both.
+    pub fn join(&mut self, desk: &Desk<O>, other: Pass<O>)
+        requires desk { IsOf desk.now self.old × IsOf desk.now other }
+        requires idle { (is_out self.old ≡ false) × (is_out other ≡ false) }
+        ensures desk { IsOf desk.now self.new }
+        ensures idle { is_out self.new ≡ false }
+        ensures seen { seen self.new ≡ longer (seen self.old) (seen other) }
+        ensures prefixes { StartsWith (seen self.new) (seen self.old) × StartsWith (seen self.new) (seen other) }
+        ensures own { own self.new ≡ own self.old ++ own other }
+        ensures left { calls_left self.new ≡ calls_left self.old + calls_left other }
+        ensures start { HasSameStart self.new self.old }
+    {
+        let Pass { seat, left } = other;
+        merge(&desk.table.shared, &mut self.seat, seat);
+        self.left += left;
+    }
+
+    pub(crate) fn into_seat(self) -> Place<O>
+        ensures { result ≡ self.seat }
+    {
+        let Self { seat, left: _ } = self;
+        seat
     }
 }

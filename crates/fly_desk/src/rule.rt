@@ -1,8 +1,8 @@
 //! The rule of the table, and what each step tells.
 use crate::Annals;
 use crate::view::View;
-use atomic_table::{Play, TableRule};
-use std::marker::PhantomData;
+use atomic_table::{Join, Play, Split, TableRule};
+use std::marker::{Brand, PhantomData};
 use std::snapshot::Snapshot;
 
 /// What a desk is started with.
@@ -58,4 +58,51 @@ impl<O: Annals> Play<Option<O>, View<O::Entry, O::Basis>> for PassOn {
     ghost use Rattle.fly_desk.specs.Steps.{Passes};
 
     ghost then = { Passes O.entries O.spare O.basis };
+}
+
+/// A number of calls. Each call of a function picks it.
+pub(crate) trait Amount {
+    ghost use Rattle.std.specs.Prelude.{ℕ};
+
+    ghost amount: { ℕ };
+}
+
+impl Amount for Brand {
+    ghost use Rattle.std.specs.Prelude.{ℕ};
+
+    ghost amount = { 0 };
+}
+
+/// That many calls go to a new pass.
+pub(crate) struct Cut<N> {
+    of: PhantomData<N>,
+}
+
+impl<E, B, N: Amount> Split<View<E, B>> for Cut<N> {
+    ghost use Rattle.fly_desk.specs.Steps.{keeping, given};
+
+    ghost left = { keeping N.amount };
+
+    ghost right = { given N.amount };
+}
+
+/// A pass gives all that it has to another.
+pub(crate) struct Merge;
+
+impl<E, B> Join<View<E, B>> for Merge {
+    ghost use Rattle.fly_desk.specs.History.{spent};
+    ghost use Rattle.fly_desk.specs.Steps.{merged};
+
+    ghost both = { merged };
+
+    ghost spent = { spent };
+}
+
+/// A pass that was told of a list has seen it.
+pub(crate) struct Settle;
+
+impl<O: Annals> Play<Option<O>, View<O::Entry, O::Basis>> for Settle {
+    ghost use Rattle.fly_desk.specs.Steps.{Settles};
+
+    ghost then = { Settles };
 }

@@ -17,8 +17,8 @@ pub(crate) const TICKET: usize = 0;
 // The word of the ticket that is served.
 const SERVING: usize = 1;
 
-// The place of the object.
-const OBJECT: usize = 0;
+/// The place of the object.
+pub(crate) const OBJECT: usize = 0;
 
 pub(crate) type Board<O> = Shared<
     Option<O>,

@@ -1,15 +1,15 @@
 //! The turns at a desk.
 use super::Desk;
 use crate::rule::Draw;
-use crate::wait::{TICKET, bring_home, wait_for};
+use crate::wait::{OBJECT, TICKET, bring_home, wait_for};
 use crate::{Annals, Pass, Turn};
 use std::sync::Wait;
 
 impl<O: Annals> Desk<O> {
     ghost use Rattle.std.specs.Prelude.{◌≡◌, ◌+◌, ◌<◌, ◌≤◌, ◌∷◌, ◌++◌, [], true, false, Some, length};
-    ghost use Rattle.fly_desk.specs.History.{StartsWith};
+    ghost use Rattle.fly_desk.specs.History.{StartsWith, IsMadeOf};
     ghost use Rattle.fly_desk.specs.Turns.{AddsOne};
-    ghost use Rattle.fly_desk.specs.Passes.{IsOf, seen, own, calls_left, basis_of, is_out, list_out, spare_out, HasSameStart, KeepsItsCalls};
+    ghost use Rattle.fly_desk.specs.Passes.{IsOf, seen, own, calls_left, calls_of, opening_of, basis_of, is_out, list_out, spare_out, HasSameStart, KeepsItsCalls};
 
     /// Waits for a turn, and hands the object out. Nothing is said of how long it waits, nor in which order threads come.
     pub fn enter<R: Wait>(&self, rt: &R, pass: &mut Pass<O>) -> Turn<O>
@@ -48,5 +48,21 @@ impl<O: Annals> Desk<O> {
         let Turn { object } = turn;
         bring_home(&self.table.shared, &mut pass.seat, object);
         pass.left -= 1;
+    }
+
+    /// The object, once every call that was made is this pass's own and every call left is this pass's.
+    pub fn close(self, pass: Pass<O>) -> O
+        requires desk { IsOf self pass }
+        requires idle { is_out pass ≡ false }
+        requires last { length (own pass) + calls_left pass ≡ calls_of pass }
+        ensures seen { StartsWith (O.entries result) (seen pass) }
+        ensures basis { basis_of pass ≡ Some (O.basis result) }
+        ensures history { IsMadeOf (O.entries result) (opening_of pass) (own pass) }
+    {
+        let Desk { table } = self;
+        let mut closed = table.close_with(pass.into_seat());
+        let slot = closed.take(OBJECT);
+        closed.free();
+        slot.unwrap()
     }
 }
