@@ -6,11 +6,13 @@ mod desk;
 mod pass;
 mod rule;
 mod shares;
+#[cfg(test)]
+mod tests;
 mod turn;
 mod view;
 mod wait;
 
 pub use annals::Annals;
-pub use desk::Desk;
+pub use desk::{Desk, StartFault};
 pub use pass::Pass;
 pub use turn::Turn;
