@@ -64,10 +64,3 @@ module _ {O E B : Type 0} {g : Ghosts O E B} where
     pub basis_is : basis_of pass ≡ Some basis
     pub calls_is : calls_of pass ≡ calls
     pub idle : is_out pass ≡ false
-
-  -- after some turns the pass is idle, and has the calls that it had, made or left
-  pub record GoesOn (desk : Desk O E B) (before after : Pass O E B g) : Type 0 where
-    pub place : IsOf desk after
-    pub idle : is_out after ≡ false
-    pub number : length (own after) + calls_left after ≡ length (own before) + calls_left before
-    pub calls : calls_of after ≡ calls_of before

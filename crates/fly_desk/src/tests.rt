@@ -1,5 +1,6 @@
-ghost use Rattle.std.specs.Prelude.{◌≡◌, ◌+◌, ◌<◌, ◌∷◌, ◌++◌, [], false, length, IfOk, vec_len, vec_capacity};
-ghost use Rattle.fly_desk.specs.Passes.{IsOf, own, calls_left, calls_of, is_out, IsNew, GoesOn};
+ghost use Rattle.std.specs.Prelude.{◌≡◌, ◌+◌, ◌<◌, ◌≤◌, ◌∷◌, ◌++◌, [], false, length, IfOk, vec_len, vec_capacity};
+ghost use Rattle.fly_desk.specs.Passes.{IsOf, own, calls_left, calls_of, is_out, IsNew};
+ghost use Rattle.fly_desk.specs.Working.{GoesOn};
 ghost use Rattle.std.specs.Thread.{IsSync};
 
 use crate::{Annals, Desk, Pass, StartFault};
@@ -14,13 +15,14 @@ const TURNS: u64 = 3000;
 
 /// The marks that workers leave, in a list that doesn't grow past its room.
 #[derive(Drop)]
-struct Tally {
+struct Tally<'p> {
+    plan: &'p u32,
     marks: Vec<(u32, u32)>,
 }
 
-impl Annals for Tally {
+impl<'p> Annals for Tally<'p> {
     type Entry = (u32, u32);
-    type Basis = ();
+    type Basis = u32;
 
     ghost use Rattle.std.specs.Prelude.{ℕ, ◌-◌, vec_len, vec_capacity};
 
@@ -28,7 +30,7 @@ impl Annals for Tally {
 
     ghost spare = { λ tally. vec_capacity tally.marks - vec_len tally.marks };
 
-    ghost basis = { λ _. tt };
+    ghost basis = { λ tally. tally.plan.now };
 
     fn count(&self) -> u64 {
         self.marks.len() as u64
@@ -39,18 +41,28 @@ impl Annals for Tally {
     }
 }
 
-impl Tally {
+// Objects on which workers leave marks.
+trait Marks: Annals<Entry = (u32, u32), Basis = u32> {
     fn mark(&mut self, mark: (u32, u32))
-        requires { vec_len self.old.marks < vec_capacity self.old.marks }
-        ensures marks { self.new.marks.items ≡ self.old.marks.items ++ mark ∷ [] }
-        ensures room { (vec_len self.new.marks ≡ vec_len self.old.marks + 1) × (vec_capacity self.new.marks ≡ vec_capacity self.old.marks) }
-    {
+        requires { 0 < Self.spare self.old }
+        ensures marks { Self.entries self.new ≡ Self.entries self.old ++ mark ∷ [] }
+        ensures room { Self.spare self.old ≤ Self.spare self.new + 1 }
+        ensures plan { Self.basis self.new ≡ Self.basis self.old };
+}
+
+impl Marks for Tally<'_> {
+    fn mark(&mut self, mark: (u32, u32)) {
         self.marks.push_reserved(mark);
     }
 }
 
 // One turn: the worker leaves a mark.
-fn turn<R: Wait>(rt: &R, desk: &Desk<Tally>, pass: &mut Pass<Tally>, mark: (u32, u32))
+fn turn<O: Marks, R: Wait>(
+    rt: &R,
+    desk: &Desk<O>,
+    pass: &mut Pass<O>,
+    mark: (u32, u32),
+)
     requires desk { IsOf desk.now pass.old }
     requires idle { is_out pass.old ≡ false }
     requires left { 0 < calls_left pass.old }
@@ -64,12 +76,12 @@ fn turn<R: Wait>(rt: &R, desk: &Desk<Tally>, pass: &mut Pass<Tally>, mark: (u32,
 }
 
 // Leaves a mark at each call that the pass has.
-fn work<R: Wait>(
+fn work<O: Marks, R: Wait>(
     rt: &R,
-    desk: &Desk<Tally>,
-    mut pass: Pass<Tally>,
+    desk: &Desk<O>,
+    mut pass: Pass<O>,
     worker: u32,
-) -> Pass<Tally>
+) -> Pass<O>
     requires desk { IsOf desk.now pass }
     requires idle { is_out pass ≡ false }
     ensures { GoesOn desk.now pass result }
@@ -83,12 +95,12 @@ fn work<R: Wait>(
 }
 
 // Starts a desk over an empty tally with room for the calls.
-fn started(alloc: Global, calls: u64) -> Result<(Desk<Tally>, Pass<Tally>), Fail>
+fn started<'p>(alloc: Global, plan: &'p u32, calls: u64) -> Result<(Desk<Tally<'p>>, Pass<Tally<'p>>), Fail>
     ensures desk { IfOk result (λ t. IsOf t.0 t.1) }
-    ensures pass { IfOk result (λ t. IsNew t.1 [] tt calls) }
+    ensures pass { IfOk result (λ t. IsNew t.1 [] plan.now calls) }
 {
     let marks = Vec::with_capacity(alloc, calls as usize)?;
-    match Desk::start(alloc, Tally { marks }, calls) {
+    match Desk::start(alloc, Tally { plan, marks }, calls) {
         Ok(made) => Ok(made),
         Err(StartFault::NoMemory(_)) => Err(NoMemory)?,
     }
@@ -96,7 +108,7 @@ fn started(alloc: Global, calls: u64) -> Result<(Desk<Tally>, Pass<Tally>), Fail
 
 #[test]
 fn desk_of_four_calls(rt: HostRuntime) -> Result<(), Fail> {
-    let (desk, mut pass) = started(rt.alloc(), 4)?;
+    let (desk, mut pass) = started(rt.alloc(), &7, 4)?;
     turn(&rt, &desk, &mut pass, (0, 0));
     turn(&rt, &desk, &mut pass, (0, 1));
     assert_eq!(rt; pass.left(), 2);
@@ -113,13 +125,13 @@ fn desk_of_four_calls(rt: HostRuntime) -> Result<(), Fail> {
 }
 
 // Two workers at once.
-fn two_work<R: Threads + Wait + Sync>(
+fn two_work<O: Marks + Send, R: Threads + Wait + Sync>(
     rt: &R,
-    desk: &Desk<Tally>,
-    one: Pass<Tally>,
-    two: Pass<Tally>,
+    desk: &Desk<O>,
+    one: Pass<O>,
+    two: Pass<O>,
     first: u32,
-) -> (Pass<Tally>, Pass<Tally>)
+) -> (Pass<O>, Pass<O>)
     requires desk { IsOf desk.now one × IsOf desk.now two }
     requires idle { (is_out one ≡ false) × (is_out two ≡ false) }
     requires number { first < 100 }
@@ -129,24 +141,18 @@ fn two_work<R: Threads + Wait + Sync>(
     let second = first + 1;
     join(
         rt,
-        || -> Pass<Tally>
-            requires { IsSync R.row × IsOf desk.now one × (is_out one ≡ false) }
-            ensures { GoesOn desk.entry.now one result }
-        { work(rt, desk, one, first) },
-        || -> Pass<Tally>
-            requires { IsSync R.row × IsOf desk.now two × (is_out two ≡ false) }
-            ensures { GoesOn desk.entry.now two result }
-        { work(rt, desk, two, second) },
+        || work(rt, desk, one, first),
+        || work(rt, desk, two, second),
     )
 }
 
 // Four workers at once, whose passes are one in the end.
-fn four_work<R: Threads + Wait + Sync>(
+fn four_work<O: Marks + Send, R: Threads + Wait + Sync>(
     rt: &R,
-    desk: &Desk<Tally>,
-    ones: (Pass<Tally>, Pass<Tally>),
-    others: (Pass<Tally>, Pass<Tally>),
-) -> Pass<Tally>
+    desk: &Desk<O>,
+    ones: (Pass<O>, Pass<O>),
+    others: (Pass<O>, Pass<O>),
+) -> Pass<O>
     requires desk { IsOf desk.now ones.0 × IsOf desk.now ones.1 × IsOf desk.now others.0 × IsOf desk.now others.1 }
     requires idle { (is_out ones.0 ≡ false) × (is_out ones.1 ≡ false) × (is_out others.0 ≡ false) × (is_out others.1 ≡ false) }
     requires all { length (own ones.0) + calls_left ones.0 + length (own ones.1) + calls_left ones.1 + length (own others.0) + calls_left others.0 + length (own others.1) + calls_left others.1 ≡ calls_of ones.0 }
@@ -158,11 +164,11 @@ fn four_work<R: Threads + Wait + Sync>(
     let (three, four) = others;
     let (left, right) = join(
         rt,
-        || -> (Pass<Tally>, Pass<Tally>)
+        || -> (Pass<O>, Pass<O>)
             requires { IsSync R.row × IsOf desk.now one × IsOf desk.now two × (is_out one ≡ false) × (is_out two ≡ false) }
             ensures { GoesOn desk.entry.now one result.0 × GoesOn desk.entry.now two result.1 }
         { two_work(rt, desk, one, two, 0) },
-        || -> (Pass<Tally>, Pass<Tally>)
+        || -> (Pass<O>, Pass<O>)
             requires { IsSync R.row × IsOf desk.now three × IsOf desk.now four × (is_out three ≡ false) × (is_out four ≡ false) }
             ensures { GoesOn desk.entry.now three result.0 × GoesOn desk.entry.now four result.1 }
         { two_work(rt, desk, three, four, 2) },
@@ -191,7 +197,7 @@ fn marks_in_order(marks: &[(u32, u32)], worker: u32) -> Option<u64> {
 
 #[test]
 fn four_workers_share_one_list(rt: HostRuntime) -> Result<(), Fail> {
-    let (desk, mut one) = started(rt.alloc(), 4 * TURNS)?;
+    let (desk, mut one) = started(rt.alloc(), &7, 4 * TURNS)?;
     let two = one.split(&desk, TURNS)?;
     let three = one.split(&desk, TURNS)?;
     let four = one.split(&desk, TURNS)?;
