@@ -1,6 +1,6 @@
 -- Cutting a pass in two, joining two, and closing keep the rule of a desk.
-use Rattle.std.proofs.Common.{◌≡◌, ℕ, zero, suc, ◌+◌, ◌-◌, ◌*◌, ◌%◌, ◌^◌, ◌<◌, ◌≤◌, ◌≢◌, ◌⊎◌, inl, inr, ⊎_elim, List, [], ◌∷◌, ◌++◌, length, set, get_or, Bool, true, false, sum_by, cond, eqb, ltb, refl, sym, subst, ap, ◌∙◌, arith, Option, Some, None, is_some, IsSome, IfSome, option_map, unwrap_or, slice_get, All, true≢false, append-nil, length-append, lt-ltb, le-ltb}
-use Rattle.std.proofs.lemmas.List.Sums.{sum_by-cons, sum_by_push, sum_by-append, count_by-le-length}
+use Rattle.std.proofs.Common.{◌≡◌, ℕ, suc, ◌+◌, ◌≤◌, ◌≢◌, ⊎_elim, List, [], ◌∷◌, ◌++◌, length, set, Bool, true, sum_by, cond, eqb, refl, sym, subst, ap, ◌∙◌, arith, Option, Some, None, is_some, IsSome, IfSome, option_map, unwrap_or, slice_get, true≢false, append-nil, length-append, lt-ltb, le-ltb}
+use Rattle.std.proofs.lemmas.List.Sums.{sum_by_push, sum_by-append, count_by-le-length}
 use Rattle.std.proofs.lemmas.List.Elements.{All-append}
 use mathlib.Core.Logic.{dite}
 use mathlib.Core.Option.{none, some, some-injective, some-ne-none}
@@ -8,15 +8,14 @@ use mathlib.Core.Option as maybe
 use native.Mathlib.Decide.{ℕ_discrete, dec_le}
 use lib.ListN.{get_elem?}
 use Rattle.atomic_table.specs.Table.{State, step, keeps, Allows, Splits, Joins, Final, Seen}
-use Rattle.atomic_table.proofs.Lists.{at_set, set_else, at_snoc, at_longer}
+use Rattle.atomic_table.proofs.Lists.{set_else, at_snoc, at_longer}
 use Rattle.fly_desk.specs.declared.view.Origin.{Origin}
 use Rattle.fly_desk.specs.declared.view.View.{View}
-use Rattle.fly_desk.specs.History.{StartsWith, once_within, count_of, times_ticket, times_at, AtTheirPlaces, IsMadeOf, spent, Knows, IsAtHome, IsDesk}
-use Rattle.fly_desk.specs.Steps.{Knower, keeping, given, merged, settled, longer, Settles}
+use Rattle.fly_desk.specs.History.{StartsWith, count_of, times_ticket, times_at, IsMadeOf, spent, Knows, IsAtHome, IsDesk}
+use Rattle.fly_desk.specs.Steps.{keeping, given, merged, settled, longer, Settles}
 use Rattle.fly_desk.specs.Turns.{opening_in, basis_in, calls_in}
-use Rattle.fly_desk.proofs.Options.{some_of, none_of}
-use Rattle.fly_desk.proofs.Sums.{sum_set, sum_term, sum_two, sum_mono, sum_add, sum_only, here_after, longer_begins}
-use Rattle.fly_desk.proofs.Keeps.{each_after, no_turn, home_stays, loads, has_turn, none_or, idle_turn}
+use Rattle.fly_desk.proofs.Sums.{sum_set, sum_term, sum_two, sum_only, longer_begins}
+use Rattle.fly_desk.proofs.Keeps.{each_after, no_turn, home_stays, loads, has_turn, none_or}
 
 module _ {O E B : Type 0} (entries : O → List E) (spare : O → ℕ) (basis : O → B) (origin : Origin E B) where
   abbrev V : Type 0
@@ -52,11 +51,12 @@ module _ {O E B : Type 0} (entries : O → List E) (spare : O → ℕ) (basis : 
         slot = r.slot;
         words = r.words;
         homes = r.homes;
+        order = r.order;
         fits = r.fits;
         begins = r.begins;
         served = r.served;
         tickets = λ k. omega (arith, sum_cut (λ (x : V). times_ticket k x.ticket) s.views id v w u at, r.tickets k);
-        drawn = let d = r.drawn in omega (arith, sum_cut (λ (x : V). count_of x.ticket) s.views id v w u at);
+        waiting = let d = r.waiting in omega (arith, sum_cut (λ (x : V). count_of x.ticket) s.views id v w u at);
         places = λ p. omega (arith, sum_cut (λ (x : V). times_at p x.own) s.views id v w u at, r.places p);
         made = let d = r.made in omega (arith, sum_cut (λ (x : V). length x.own) s.views id v w u at);
         calls = let d = r.calls in omega (arith, sum_cut (λ (x : V). length x.own + x.left) s.views id v w u at);
@@ -86,11 +86,12 @@ module _ {O E B : Type 0} (entries : O → List E) (spare : O → ℕ) (basis : 
         slot = r.slot;
         words = r.words;
         homes = r.homes;
+        order = r.order;
         fits = r.fits;
         begins = r.begins;
         served = r.served;
         tickets = λ k. omega (arith, both (λ (x : V). times_ticket k x.ticket), r.tickets k, ap (times_ticket k) no_ticket');
-        drawn = let d = r.drawn in omega (arith, both (λ (x : V). count_of x.ticket));
+        waiting = let d = r.waiting in omega (arith, both (λ (x : V). count_of x.ticket));
         places = λ p. omega (arith, both (λ (x : V). times_at p x.own), r.places p, sum_by-append (λ (c : ℕ × E). cond (eqb c.0 p) 1 0) v.own u.own);
         made = let d = r.made in omega (arith, both (λ (x : V). length x.own));
         calls = let d = r.calls in omega (arith, both (λ (x : V). length x.own + x.left));
@@ -118,10 +119,14 @@ module _ {O E B : Type 0} (entries : O → List E) (spare : O → ℕ) (basis : 
       let w : V = settled v in
       let both = longest r.log v.seen v.told known.seen known.told in
       let part = sum_term (λ (x : V). length x.own + x.left) s.views id v at in
-      let calls = r.calls in let fits = r.fits in
-      (w, keeps, tt, loads entries spare basis origin s r 0 id v w c at
-          record { same = known.same; seen = both.0; told = (r.log, refl); own = known.own; may_call = known.may_call; turn = known.turn } refl refl refl no_hold no_hold,
-          (refl, both.1, both.2, omega arith))
+      let calls = r.calls in let fits = r.fits in (
+        w,
+        keeps,
+        tt,
+        loads entries spare basis origin s r 0 id v w c at
+            record { same = known.same; seen = both.0; told = (r.log, refl); own = known.own; may_call = known.may_call; turn = known.turn } refl refl refl no_hold no_hold,
+        (refl, both.1, both.2, omega arith),
+      )
 
   -- what a closed desk gives
   pub record Closing (slots : List (Option O)) (v : V) : Type 0 where
@@ -152,12 +157,12 @@ module _ {O E B : Type 0} (entries : O → List E) (spare : O → ℕ) (basis : 
       let all : length v.own + v.left ≡ origin.calls = all_calls ∙ ap calls_from is in
       let calls = r.calls in let made = r.made in let served = r.served in
       let others : (j : ℕ) (u : V) → j ≢ id → get_elem? s.views j ≡ some u → length u.own + u.left ≡ 0 = λ j u apart there.
-          let two = sum_two (λ (x : V). length x.own + x.left) s.views id j v u (λ e. apart (sym e)) at there in omega arith in
+      let two = sum_two (λ (x : V). length x.own + x.left) s.views id j v u (λ e. apart (sym e)) at there in omega arith in
       let none_made : (j : ℕ) (u : V) → j ≢ id → get_elem? s.views j ≡ some u → length u.own ≡ 0 = λ j u apart there. let z = others j u apart there in omega arith in
       let idle : (j : ℕ) (u : V) → get_elem? s.views j ≡ some u → u.held ≡ None = λ j u there. dite (ℕ_discrete j id)
-          (λ e. ap (λ (x : V). x.held) (sym (some-injective v u (sym at ∙ (ap (λ (k : ℕ). get_elem? s.views k) (sym e) ∙ there)))) ∙ no_hold)
-          (λ apart. none_or entries spare basis origin u.held (λ t. let z = others j u apart there in let k = r.each j u there in let m = k.may_call in
-          let one = ap count_of (has_turn entries spare basis origin u.held u.ticket r.log r.serving t k.turn) in omega arith)) in
+      (λ e. ap (λ (x : V). x.held) (sym (some-injective v u (sym at ∙ (ap (λ (k : ℕ). get_elem? s.views k) (sym e) ∙ there)))) ∙ no_hold)
+      (λ apart. none_or entries spare basis origin u.held (λ t. let z = others j u apart there in let k = r.each j u there in let m = k.may_call in
+      let one = ap count_of (has_turn entries spare basis origin u.held u.ticket r.log r.serving t k.turn) in omega arith)) in
       let home = home_of r.log r.serving s.views idle r.slot r.at_home in
       let whole : r.log ≡ entries home.0 = sym home.2 in
       let opens : opening_in v ≡ origin.opening = ap opening_from is in

@@ -1,24 +1,24 @@
 -- Each step keeps the rule of a desk.
-use Rattle.std.proofs.Common.{◌≡◌, ℕ, zero, suc, ◌+◌, ◌-◌, ◌*◌, ◌%◌, ◌^◌, ◌<◌, ◌≤◌, ◌≢◌, ◌⊎◌, inl, inr, ⊎_elim, List, [], ◌∷◌, ◌++◌, length, set, get_or, Bool, true, false, sum_by, cond, eqb, ltb, refl, sym, subst, ap, ◌∙◌, arith, Option, Some, None, is_some, IfSome, MatchBool, ◌==◌, slice_get, All, true≢false, unwrap_or, append-nil, length-append, length-set, eq-eqb, ne_eqb}
-use Rattle.std.proofs.lemmas.List.Sums.{sum_by-cons, sum_by_push, sum_by-append}
-use Rattle.std.proofs.lemmas.List.Elements.{All-push, All-append}
+use Rattle.std.proofs.Common.{◌≡◌, ℕ, zero, suc, ◌+◌, ◌%◌, ◌^◌, ◌<◌, ◌≤◌, ◌≢◌, ⊎_elim, List, [], ◌∷◌, ◌++◌, length, set, get_or, Bool, true, sum_by, cond, eqb, refl, sym, subst, ap, ◌∙◌, arith, Option, Some, None, is_some, IfSome, MatchBool, ◌==◌, slice_get, true≢false, unwrap_or, append-nil, length-append, eq-eqb, ne_eqb}
+use Rattle.std.proofs.lemmas.List.Sums.{sum_by-cons, sum_by_push}
+use Rattle.std.proofs.lemmas.List.Elements.{All-push}
 use Rattle.std.proofs.lemmas.Option.{slice_get-get_or}
 use mathlib.Core.Logic.{dite}
 use mathlib.Core.Option.{none, some, some-injective, some-ne-none}
 use mathlib.Core.Option as maybe
-use native.Mathlib.Decide.{ℕ_discrete, dec_le}
+use native.Mathlib.Decide.{ℕ_discrete}
 use lib.ListN.{get_elem?}
 use lib.Seq.{set-get_or}
 use Rattle.std.proofs.Math.Seq.{get_or-append_seam}
-use Rattle.atomic_table.specs.Table.{State, Me, step, Act, keeps, takes, gives, Valid, carried_after, stepped, opening, Allows, Splits, Joins, Final, Seen}
-use Rattle.atomic_table.proofs.Lists.{at_set, set_here, set_else, set_again, at_snoc, at_longer}
+use Rattle.atomic_table.specs.Table.{State, step, keeps, takes, gives, rest, stepped, opening, Allows}
+use Rattle.atomic_table.proofs.Lists.{at_set, set_else}
 use Rattle.fly_desk.specs.declared.view.Origin.{Origin}
 use Rattle.fly_desk.specs.declared.view.View.{View}
-use Rattle.fly_desk.specs.History.{StartsWith, once_within, count_of, times_ticket, times_at, AtTheirPlaces, opening_view, spent, Knows, IsAtHome, IsDesk}
+use Rattle.fly_desk.specs.History.{StartsWith, once_within, count_of, times_ticket, times_at, AtTheirPlaces, opening_view, Knows, IsAtHome, IsDesk}
 use Rattle.fly_desk.specs.Steps.{Knower, drawing, taking, passing, Draws, TakesOut, Looks, Passes}
 use Rattle.fly_desk.specs.Turns.{AddsOne, list_in, spare_in, basis_in}
-use Rattle.fly_desk.proofs.Options.{some_of, none_of, if_mapped, mapped}
-use Rattle.fly_desk.proofs.Sums.{sum_set, sum_term, sum_two, sum_mono, sum_less, sum_add, here_after, longer_begins, begins_longer, get_longer, stand_longer, within_inside, within_none, within_next, within_less, within_some, at_most_once}
+use Rattle.fly_desk.proofs.Options.{some_of, if_mapped}
+use Rattle.fly_desk.proofs.Sums.{sum_set, sum_term, sum_two, sum_mono, sum_less, sum_add, here_after, begins_longer, stand_longer, within_none, within_next, within_less, within_some, at_most_once}
 
 module _ {O E B : Type 0} (entries : O → List E) (spare : O → ℕ) (basis : O → B) (origin : Origin E B) where
   abbrev V : Type 0
@@ -59,7 +59,7 @@ module _ {O E B : Type 0} (entries : O → List E) (spare : O → ℕ) (basis : 
       let few : sum_by (λ (u : V). length u.own + count_of u.ticket) s.views < sum_by (λ (u : V). length u.own + u.left) s.views =
       sum_less (λ (u : V). length u.own + count_of u.ticket) (λ (u : V). length u.own + u.left) s.views id v at (omega arith) (λ j u there. let m = (r.each j u there).may_call in omega arith) in
       let parts = sum_add (λ (u : V). length u.own) (λ (u : V). count_of u.ticket) s.views in
-      let made = r.made in let drawn = r.drawn in let calls = r.calls in let fits = r.fits in
+      let made = r.made in let waiting = r.waiting in let calls = r.calls in let fits = r.fits in
       let bound : r.ticket < origin.calls = omega arith in (
         w,
         keeps,
@@ -71,11 +71,12 @@ module _ {O E B : Type 0} (entries : O → List E) (spare : O → ℕ) (basis : 
           slot = r.slot;
           words = ap (λ (ws : List ℕ). set ws 0 ((found + 1) % 2 ^ 64)) r.words ∙ ap (λ (k : ℕ). k ∷ r.serving ∷ []) (ap (λ (k : ℕ). (k + 1) % 2 ^ 64) word ∙ mod_small (r.ticket + 1) (omega arith));
           homes = r.homes;
+          order = let o = r.order in omega arith;
           fits = r.fits;
           begins = r.begins;
           served = r.served;
           tickets = λ k. omega (arith, sum_set (λ (u : V). times_ticket k u.ticket) s.views id v w at, r.tickets k, before k, within_next r.serving r.ticket k (omega arith), ap (λ (t : ℕ). times_ticket k (Some t)) word);
-          drawn = omega (arith, sum_set (λ (u : V). count_of u.ticket) s.views id v w at);
+          waiting = omega (arith, sum_set (λ (u : V). count_of u.ticket) s.views id v w at);
           places = λ p. omega (arith, sum_set (λ (u : V). times_at p u.own) s.views id v w at, r.places p);
           made = omega (arith, sum_set (λ (u : V). length u.own) s.views id v w at);
           calls = omega (arith, sum_set (λ (u : V). length u.own + u.left) s.views id v w at);
@@ -97,11 +98,12 @@ module _ {O E B : Type 0} (entries : O → List E) (spare : O → ℕ) (basis : 
     slot = r.slot;
     words = set-get_or s.words i 0 ∙ r.words;
     homes = r.homes;
+    order = r.order;
     fits = r.fits;
     begins = r.begins;
     served = r.served;
     tickets = λ k. let d = ap (times_ticket k) ticket in omega (arith, sum_set (λ (u : V). times_ticket k u.ticket) s.views id v w at, r.tickets k);
-    drawn = let d = ap count_of ticket in let e = r.drawn in omega (arith, sum_set (λ (u : V). count_of u.ticket) s.views id v w at);
+    waiting = let d = ap count_of ticket in let e = r.waiting in omega (arith, sum_set (λ (u : V). count_of u.ticket) s.views id v w at);
     places = λ p. let d = ap (times_at p) own in omega (arith, sum_set (λ (u : V). times_at p u.own) s.views id v w at, r.places p);
     made = let d = ap (λ (l : List (ℕ × E)). length l) own in let e = r.made in omega (arith, sum_set (λ (u : V). length u.own) s.views id v w at);
     calls = let d = ap (λ (l : List (ℕ × E)). length l) own in let e = r.calls in omega (arith, sum_set (λ (u : V). length u.own + u.left) s.views id v w at);
@@ -163,11 +165,12 @@ module _ {O E B : Type 0} (entries : O → List E) (spare : O → ℕ) (basis : 
           slot = none;
           words = set-get_or s.words 1 0 ∙ r.words;
           homes = ap (λ (hs : List (maybe.Option (Option O))). set hs 0 none) r.homes;
+          order = r.order;
           fits = r.fits;
           begins = r.begins;
           served = r.served;
           tickets = λ j. omega (arith, sum_set (λ (u : V). times_ticket j u.ticket) s.views id v w at, r.tickets j);
-          drawn = let d = r.drawn in omega (arith, sum_set (λ (u : V). count_of u.ticket) s.views id v w at);
+          waiting = let d = r.waiting in omega (arith, sum_set (λ (u : V). count_of u.ticket) s.views id v w at);
           places = λ p. omega (arith, sum_set (λ (u : V). times_at p u.own) s.views id v w at, r.places p);
           made = omega (arith, sum_set (λ (u : V). length u.own) s.views id v w at);
           calls = omega (arith, sum_set (λ (u : V). length u.own + u.left) s.views id v w at);
@@ -177,7 +180,7 @@ module _ {O E B : Type 0} (entries : O → List E) (spare : O → ℕ) (basis : 
           at_home = (id, w, here_after s.views id v w at, refl);
         },
         tells (w, (0, Some object) ∷ c)
-            (λ _. (object, refl, subst (λ (l : List E). StartsWith l v.seen) (sym home.2) known.seen, of_origin v.origin object home.3 known.same, omega arith))
+            (λ _. (object, refl, subst (λ (l : List E). StartsWith l v.seen) (sym home.2) known.seen, subst (λ (l : List E). AtTheirPlaces l v.own) (sym home.2) known.own, of_origin v.origin object home.3 known.same, omega arith))
             (λ ne. absurd (ne e)),
       ))
       (λ ne. (v, keeps, tt, loads s r 1 id v v c at (r.each id v at) refl refl refl no_hold no_hold, tells (v, c) (λ e. absurd (ne e)) (λ _. refl)))
@@ -245,7 +248,7 @@ module _ {O E B : Type 0} (entries : O → List E) (spare : O → ℕ) (basis : 
       let one : times_ticket r.serving v.ticket ≡ 1 = ap (times_ticket r.serving) mine ∙ ap (λ (b : Bool). cond b (suc zero) zero) (eq-eqb r.serving r.serving refl) in
       let inside = within_some r.serving r.ticket r.serving (let a = sum_term (λ (u : V). times_ticket r.serving u.ticket) s.views id v at in let b = r.tickets r.serving in omega arith) in
       let less : r.serving < r.ticket = inside.1 in
-      let made = r.made in let drawn = r.drawn in let calls = r.calls in let fits = r.fits in let served = r.served in
+      let made = r.made in let waiting = r.waiting in let calls = r.calls in let fits = r.fits in let served = r.served in
       let most : sum_by (λ (u : V). length u.own + count_of u.ticket) s.views ≤ sum_by (λ (u : V). length u.own + u.left) s.views =
       sum_mono (λ (u : V). length u.own + count_of u.ticket) (λ (u : V). length u.own + u.left) s.views (λ j u there. let m = (r.each j u there).may_call in omega arith) in
       let parts = sum_add (λ (u : V). length u.own) (λ (u : V). count_of u.ticket) s.views in
@@ -264,11 +267,12 @@ module _ {O E B : Type 0} (entries : O → List E) (spare : O → ℕ) (basis : 
           slot = some (Some object);
           words = ap (λ (ws : List ℕ). set ws 1 ((found + 1) % 2 ^ 64)) r.words ∙ ap (λ (k : ℕ). r.ticket ∷ k ∷ []) (ap (λ (k : ℕ). (k + 1) % 2 ^ 64) word ∙ mod_small (r.serving + 1) (omega arith));
           homes = ap (λ (hs : List (maybe.Option (Option O))). set hs 0 (some (Some object))) r.homes;
+          order = omega arith;
           fits = r.fits;
           begins = begins_longer r.log origin.opening entry r.begins;
           served = omega arith;
           tickets = λ k. omega (arith, sum_set (λ (u : V). times_ticket k u.ticket) s.views id v w at, r.tickets k, within_less r.serving r.ticket k less, ap (times_ticket k) mine);
-          drawn = omega (arith, sum_set (λ (u : V). count_of u.ticket) s.views id v w at);
+          waiting = omega (arith, sum_set (λ (u : V). count_of u.ticket) s.views id v w at);
           places = λ p. omega (
             arith,
             sum_set (λ (u : V). times_at p u.own) s.views id v w at,
@@ -305,6 +309,14 @@ module _ {O E B : Type 0} (entries : O → List E) (spare : O → ℕ) (basis : 
             let e : entry ≡ entry' = last_same list entry entry' (sym adds ∙ (ap entries same ∙ more)) in ap (λ (x : E). (passing v list x, no_slot)) e),
       )
 
+  -- the same, of a seat that has put the object into its empty slot
+  pub passes_home : (n id : ℕ) (m : Knower O E B) (v : V) (slots : List (ℕ × Option O)) (object : O) → m ≡ (v, (0, Some object) ∷ rest slots) → slots ≡ (0, None) ∷ [] → is_some v.origin ≡ true → is_some v.held ≡ true
+      → AddsOne (list_in v) (entries object) → spare_in v ≤ spare object + 1 → basis_in v ≡ Some (basis object) → Allows Rule n id m 1 (λ k. (k + 1) % 2 ^ 64) (Passes entries spare basis (step n 1 1 0 none) m)
+  passes_home n id m v slots object is empty live out adds few same =
+      let at : Knower O E B → Type 0 = λ k. Allows Rule n id k 1 (λ x. (x + 1) % 2 ^ 64) (Passes entries spare basis (step n 1 1 0 none) k) in
+      let hand : m ≡ (v, in_hand object) = is ∙ ap (λ (l : List (ℕ × Option O)). (v, (0, Some object) ∷ rest l)) empty in
+      subst at (sym hand) (passes n id v (list_in v) (spare_in v) adds.0 object (some_of v.held ([], 0) out) live (if_mapped (λ (o : Origin E B). o.basis) v.origin (basis object) same) adds.1 few)
+
   only_seat : (v u : V) (j : ℕ) → get_elem? (v ∷ []) j ≡ some u → v ≡ u
   only_seat v u zero at = some-injective v u at
   only_seat v u (suc j) at = absurd (some-ne-none u (sym at))
@@ -318,11 +330,12 @@ module _ {O E B : Type 0} (entries : O → List E) (spare : O → ℕ) (basis : 
     slot = some (Some object);
     words = refl;
     homes = refl;
+    order = omega arith;
     fits = fits;
     begins = ([], sym (append-nil origin.opening));
     served = omega arith;
     tickets = λ k. omega (arith, within_none 0 k);
-    drawn = refl;
+    waiting = refl;
     places = λ p. omega (arith, within_none (length origin.opening) p);
     made = refl;
     calls = omega (arith, sum_by-cons (λ (u : V). length u.own + u.left) v []);
@@ -336,14 +349,6 @@ module _ {O E B : Type 0} (entries : O → List E) (spare : O → ℕ) (basis : 
     };
     at_home = (object, refl, list, same, omega arith, λ j u at. subst (λ (x : V). x.held ≡ None) (only_seat v u j at) refl);
   }
-
-  -- the same, of a seat with the object in its hand
-  pub passes_home : (n id : ℕ) (m : Knower O E B) (v : V) (object : O) → m ≡ (v, in_hand object) → is_some v.origin ≡ true → is_some v.held ≡ true → AddsOne (list_in v) (entries object)
-      → spare_in v ≤ spare object + 1 → basis_in v ≡ Some (basis object)
-      → Allows Rule n id m 1 (λ k. (k + 1) % 2 ^ 64) (Passes entries spare basis (step n 1 1 0 none) m)
-  passes_home n id m v object is live out adds few same =
-      let at : Knower O E B → Type 0 = λ k. Allows Rule n id k 1 (λ x. (x + 1) % 2 ^ 64) (Passes entries spare basis (step n 1 1 0 none) k) in
-      subst at (sym is) (passes n id v (list_in v) (spare_in v) adds.0 object (some_of v.held ([], 0) out) live (if_mapped (λ (o : Origin E B). o.basis) v.origin (basis object) same) adds.1 few)
 
   pub starts_with : (object : O) (slots : List (Option O)) → slots ≡ Some object ∷ [] → entries object ≡ origin.opening → basis object ≡ origin.basis → origin.calls ≤ spare object → origin.calls < 2 ^ 64
       → Rule (opening (0 ∷ 0 ∷ []) slots (opening_view origin))

@@ -1,5 +1,5 @@
 -- Options that are there, and those that are not.
-use Rattle.std.proofs.Common.{◌≡◌, ℕ, ◌≤◌, List, [], ◌∷◌, Bool, true, false, true≢false, Option, Some, None, is_some, IfSome, option_map, unwrap_or, refl, sym, ap, ◌∙◌, arith}
+use Rattle.std.proofs.Common.{◌≡◌, ℕ, List, [], ◌∷◌, true, false, true≢false, Option, Some, None, is_some, IfSome, option_map, unwrap_or, refl, sym, ap}
 use Rattle.fly_desk.specs.Turns.{slots_out}
 
 module _ {A : Type 0} where

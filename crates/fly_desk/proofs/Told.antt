@@ -1,6 +1,6 @@
 -- What a step told, at the ticket or the turn that the pass has.
-use Rattle.std.proofs.Common.{◌≡◌, ◌≢◌, ℕ, List, [], ◌∷◌, ◌++◌, Bool, Option, Some, None, IfSome, MatchBool, ◌==◌, subst, eq-eqb, ne_eqb, is_some, true, refl}
-use Rattle.atomic_table.specs.Table.{Step, step}
+use Rattle.std.proofs.Common.{◌≡◌, ◌≢◌, ℕ, List, [], ◌∷◌, ◌++◌, Bool, Option, Some, None, IfSome, MatchBool, ◌==◌, subst, eq-eqb, ne_eqb, is_some, true, refl, ap, ◌∙◌}
+use Rattle.atomic_table.specs.Table.{Step, step, rest}
 use mathlib.Core.Option.{none}
 use Rattle.fly_desk.specs.declared.view.View.{View}
 use Rattle.fly_desk.specs.Turns.{list_in, spare_in}
@@ -30,8 +30,9 @@ module _ {O E B : Type 0} (entries : O → List E) (spare : O → ℕ) (basis : 
       Goes : Knower O E B → Knower O E B → List E → E → Type 0
       Goes a b l e = b ≡ (passing a.0 l e, [])
 
-  pub passed_home : (m : Knower O E B) (v : View E B) (m' : Knower O E B) (object : O) → m ≡ (v, (0, Some object) ∷ []) → is_some v.held ≡ true → Passes entries spare basis anywhere m 0 m'
-      → (entry : E) → entries object ≡ list_in v ++ entry ∷ [] → m' ≡ (passing v (list_in v) entry, [])
-  passed_home m v m' object is out told entry adds =
+  pub passed_home : (m : Knower O E B) (v : View E B) (m' : Knower O E B) (slots : List (ℕ × Option O)) (object : O) → m ≡ (v, (0, Some object) ∷ rest slots) → slots ≡ (0, None) ∷ [] → is_some v.held ≡ true
+      → Passes entries spare basis anywhere m 0 m' → (entry : E) → entries object ≡ list_in v ++ entry ∷ [] → m' ≡ (passing v (list_in v) entry, [])
+  passed_home m v m' slots object is empty out told entry adds =
       let P : Knower O E B → Type 0 = λ k. Passes entries spare basis anywhere k 0 m' in
-      passed (v, (0, Some object) ∷ []) m' (spare_in v) (list_in v) (some_of v.held ([], 0) out) (subst P is told) object entry refl adds
+      let hand : m ≡ (v, (0, Some object) ∷ []) = is ∙ ap (λ (l : List (ℕ × Option O)). (v, (0, Some object) ∷ rest l)) empty in
+      passed (v, (0, Some object) ∷ []) m' (spare_in v) (list_in v) (some_of v.held ([], 0) out) (subst P hand told) object entry refl adds

@@ -1,5 +1,5 @@
 -- The rule of a desk: the turns of all passes form one history.
-use Rattle.std.specs.Prelude.{◌≡◌, ℕ, ◌+◌, ◌^◌, ◌<◌, ◌≤◌, List, [], ◌∷◌, ◌++◌, length, Bool, true, cond, eqb, ltb, Option, Some, None, IfSome, is_some, slice_get, All, count_by, sum_by}
+use Rattle.std.specs.Prelude.{◌≡◌, ℕ, ◌+◌, ◌^◌, ◌<◌, ◌≤◌, List, [], ◌∷◌, ◌++◌, length, true, cond, eqb, ltb, Option, Some, None, IfSome, is_some, slice_get, All, count_by, sum_by}
 use mathlib.Core.Option as maybe
 use lib.ListN.{get_elem?}
 use Rattle.atomic_table.specs.Table.{State}
@@ -48,14 +48,19 @@ module _ {E B : Type 0} where
   abbrev pub spent : View E B
   spent = record { origin = None; seen = []; told = []; own = []; left = 0; ticket = None; held = None }
 
-  -- What a view may say where the history is `log` and `serving` is the ticket that is served
+  -- What a view may say where the history is `log`, and `serving` is the ticket that is served
   pub record Knows (origin : Origin E B) (log : List E) (serving : ℕ) (v : View E B) : Type 0 where
+    -- it knows the start, unless it was joined into another
     pub same : IfSome v.origin (λ o. o ≡ origin)
+    -- what it has seen, and what it was told of, are beginnings of the history
     pub seen : StartsWith log v.seen
     pub told : StartsWith log v.told
+    -- its own calls stand in the history, each at its place
     pub own : AtTheirPlaces log v.own
+    -- with a ticket it has a call left
     pub may_call : count_of v.ticket ≤ v.left
-    pub turn : IfSome v.held (λ h. (v.ticket ≡ Some serving) × (h.0 ≡ log) × (origin.calls ≤ h.1 + serving))
+    -- with the turn it has the served ticket, and the object had just the history
+    pub turn : IfSome v.held (λ held. (v.ticket ≡ Some serving) × (held.0 ≡ log) × (origin.calls ≤ held.1 + serving))
 
 module _ {O E B : Type 0} (entries : O → List E) (spare : O → ℕ) (basis : O → B) where
   abbrev pub origin_at : O → ℕ → Origin E B
@@ -67,21 +72,27 @@ module _ {O E B : Type 0} (entries : O → List E) (spare : O → ℕ) (basis : 
   IsAtHome origin log serving views (maybe.some slot) = (object : O) × (slot ≡ Some object) × (entries object ≡ log) × (basis object ≡ origin.basis) × (origin.calls ≤ spare object + serving)
       × ((seat : ℕ) (v : View E B) → get_elem? views seat ≡ maybe.some v → v.held ≡ None)
 
-  -- There is one history. Each ticket from the served one on is in one view, and each place after the opening list in one view's own calls.
+  -- The table of a desk: what its words, its slot and all views say together
   pub record IsDesk (origin : Origin E B) (s : State (Option O) (View E B)) : Type 0 where
+    -- the one history, the next ticket, the ticket that is served, and the object's slot
     pub log : List E
     pub ticket : ℕ
     pub serving : ℕ
     pub slot : maybe.Option (Option O)
     pub words : s.words ≡ ticket ∷ serving ∷ []
     pub homes : s.homes ≡ slot ∷ []
+    pub order : serving ≤ ticket
     pub fits : origin.calls < 2 ^ 64
+    -- the history is the opening list and one entry for each ticket that was served
     pub begins : StartsWith log origin.opening
     pub served : length log ≡ length origin.opening + serving
+    -- each ticket from the served one on is in one view, and no other ticket is
     pub tickets : (k : ℕ) → sum_by (λ v. times_ticket k v.ticket) s.views ≡ once_within serving ticket k
-    pub drawn : sum_by (λ v. count_of v.ticket) s.views + serving ≡ ticket
+    pub waiting : sum_by (λ v. count_of v.ticket) s.views + serving ≡ ticket
+    -- each place after the opening list is in one view's own calls, and no other place is
     pub places : (p : ℕ) → sum_by (λ v. times_at p v.own) s.views ≡ once_within (length origin.opening) (length log) p
     pub made : sum_by (λ v. length v.own) s.views ≡ serving
+    -- the calls made and the calls left add up
     pub calls : sum_by (λ v. length v.own + v.left) s.views ≡ origin.calls
     pub each : (seat : ℕ) (v : View E B) → get_elem? s.views seat ≡ maybe.some v → Knows origin log serving v
     pub at_home : IsAtHome origin log serving s.views slot

@@ -1,5 +1,5 @@
 -- What a pass knows, as contracts say it.
-use Rattle.std.specs.Prelude.{◌≡◌, ℕ, ◌+◌, List, [], ◌∷◌, ◌++◌, length, Bool, false, is_some, Option, Some, None, option_map, unwrap_or}
+use Rattle.std.specs.Prelude.{◌≡◌, ℕ, List, [], Bool, false, is_some, Option, Some}
 use Rattle.fly_desk.specs.declared.annals.Annals.{Ghosts}
 use Rattle.fly_desk.specs.declared.desk.Desk.{Desk}
 use Rattle.fly_desk.specs.declared.pass.Pass.{Pass}

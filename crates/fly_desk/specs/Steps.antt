@@ -2,19 +2,16 @@
 use Rattle.std.specs.Prelude.{◌≡◌, ℕ, ◌+◌, ◌-◌, ◌^◌, ◌<◌, cond, ltb, List, [], ◌∷◌, ◌++◌, length, ◌==◌, MatchBool, Option, Some, None, IfSome}
 use Rattle.atomic_table.specs.Table.{Me, Step}
 use Rattle.fly_desk.specs.declared.view.View.{View}
-use Rattle.fly_desk.specs.History.{StartsWith}
+use Rattle.fly_desk.specs.History.{StartsWith, AtTheirPlaces}
 
 -- the longer of two lists
 abbrev pub longer : {E : Type 0} → List E → List E → List E
 longer one other = cond (ltb (length one) (length other)) other one
 
-abbrev pub Knower : Type 0 → Type 0 → Type 0 → Type 0
-Knower O E B = Me (Option O) (View E B)
-
 module _ {E B : Type 0} where
-  -- the ticket found is the pass's
+  -- the ticket is the pass's
   abbrev pub drawing : View E B → ℕ → View E B
-  drawing v n = record v { ticket = Some n }
+  drawing v ticket = record v { ticket = Some ticket }
 
   -- the pass has the turn, with the list and the spare that the object has
   abbrev pub taking : View E B → List E → ℕ → View E B
@@ -40,24 +37,31 @@ module _ {E B : Type 0} where
   abbrev pub settled : View E B → View E B
   settled v = record v { seen = longer v.seen v.told; told = [] }
 
+-- a seat at the table: its view, and the slots that it has taken
+abbrev pub Knower : Type 0 → Type 0 → Type 0 → Type 0
+Knower O E B = Me (Option O) (View E B)
+
 module _ {O E B : Type 0} where
+  -- the number found is the seat's ticket
   abbrev pub Draws : Step (Option O) → Knower O E B → ℕ → Knower O E B → Type 0
-  Draws st m n m' = m' ≡ (drawing m.0 n, m.1)
+  Draws step before found after = after ≡ (drawing before.0 found, before.1)
 
   -- both lists are beginnings of the longer, and the calls left fit a word
   abbrev pub Settles : Step (Option O) → Knower O E B → ℕ → Knower O E B → Type 0
-  Settles st m n m' = (m' ≡ (settled m.0, m.1)) × StartsWith (longer m.0.seen m.0.told) m.0.seen × StartsWith (longer m.0.seen m.0.told) m.0.told × (m.0.left < 2 ^ 64)
+  Settles step before found after = (after ≡ (settled before.0, before.1)) × StartsWith (longer before.0.seen before.0.told) before.0.seen × StartsWith (longer before.0.seen before.0.told) before.0.told
+      × (before.0.left < 2 ^ 64)
 
   module _ (entries : O → List E) (spare : O → ℕ) (basis : O → B) where
-    -- an object, whose list begins with what the pass has seen, is the pass's
+    -- The seat has the object. Its list begins with what the pass has seen and has the pass's own calls at their places, and an entry more fits.
     abbrev pub TakesOut : Knower O E B → Knower O E B → Type 0
-    TakesOut m m' = (object : O) × (m' ≡ (taking m.0 (entries object) (spare object), (0, Some object) ∷ m.1))
-        × StartsWith (entries object) m.0.seen × IfSome m.0.origin (λ o. basis object ≡ o.basis) × (0 < spare object)
+    TakesOut before after = (object : O) × (after ≡ (taking before.0 (entries object) (spare object), (0, Some object) ∷ before.1))
+        × StartsWith (entries object) before.0.seen × AtTheirPlaces (entries object) before.0.own × IfSome before.0.origin (λ o. basis object ≡ o.basis) × (0 < spare object)
 
-    -- the object is the pass's where its ticket is served
+    -- the object is the seat's where the number found is its ticket
     abbrev pub Looks : Step (Option O) → Knower O E B → ℕ → Knower O E B → Type 0
-    Looks st m n m' = IfSome m.0.ticket (λ k. MatchBool (n == k) (TakesOut m m') (m' ≡ m))
+    Looks step before found after = IfSome before.0.ticket (λ ticket. MatchBool (found == ticket) (TakesOut before after) (after ≡ before))
 
     -- the object, with one entry more, is at home
     abbrev pub Passes : Step (Option O) → Knower O E B → ℕ → Knower O E B → Type 0
-    Passes st m n m' = IfSome m.0.held (λ h. (object : O) (entry : E) → m.1 ≡ (0, Some object) ∷ [] → entries object ≡ h.0 ++ entry ∷ [] → m' ≡ (passing m.0 h.0 entry, []))
+    Passes step before found after = IfSome before.0.held (λ held.
+        (object : O) (entry : E) → before.1 ≡ (0, Some object) ∷ [] → entries object ≡ held.0 ++ entry ∷ [] → after ≡ (passing before.0 held.0 entry, []))

@@ -1,5 +1,5 @@
 -- What a worker leaves of its pass.
-use Rattle.std.specs.Prelude.{◌≡◌, ℕ, ◌+◌, Bool, false, length}
+use Rattle.std.specs.Prelude.{◌≡◌, ◌+◌, false, length}
 use Rattle.fly_desk.specs.declared.annals.Annals.{Ghosts}
 use Rattle.fly_desk.specs.declared.desk.Desk.{Desk}
 use Rattle.fly_desk.specs.declared.pass.Pass.{Pass}

@@ -6,11 +6,11 @@ mod desk;
 mod pass;
 mod rule;
 mod shares;
+mod steps;
 #[cfg(test)]
 mod tests;
 mod turn;
 mod view;
-mod wait;
 
 pub use annals::Annals;
 pub use desk::{Desk, StartFault};

@@ -6,7 +6,7 @@ ghost use Rattle.fly_desk.specs.Steps.{keeping, given, merged, settled, longer};
 use crate::Annals;
 use crate::pass::Place;
 use crate::rule::{Amount, Cut, Merge, Settle};
-use crate::wait::{Board, TICKET};
+use crate::steps::{Board, TICKET};
 
 /// Cuts a seat with these of the calls that are left from another.
 pub(crate) fn cut<O: Annals, N: Amount>(

@@ -22,6 +22,7 @@ struct Tally<'p> {
 
 impl<'p> Annals for Tally<'p> {
     type Entry = (u32, u32);
+
     type Basis = u32;
 
     ghost use Rattle.std.specs.Prelude.{ℕ, ◌-◌, vec_len, vec_capacity};
@@ -57,12 +58,7 @@ impl Marks for Tally<'_> {
 }
 
 // One turn: the worker leaves a mark.
-fn turn<O: Marks, R: Wait>(
-    rt: &R,
-    desk: &Desk<O>,
-    pass: &mut Pass<O>,
-    mark: (u32, u32),
-)
+fn turn<O: Marks, R: Wait>(rt: &R, desk: &Desk<O>, pass: &mut Pass<O>, mark: (u32, u32))
     requires desk { IsOf desk.now pass.old }
     requires idle { is_out pass.old ≡ false }
     requires left { 0 < calls_left pass.old }
@@ -76,12 +72,7 @@ fn turn<O: Marks, R: Wait>(
 }
 
 // Leaves a mark at each call that the pass has.
-fn work<O: Marks, R: Wait>(
-    rt: &R,
-    desk: &Desk<O>,
-    mut pass: Pass<O>,
-    worker: u32,
-) -> Pass<O>
+fn work<O: Marks, R: Wait>(rt: &R, desk: &Desk<O>, mut pass: Pass<O>, worker: u32) -> Pass<O>
     requires desk { IsOf desk.now pass }
     requires idle { is_out pass ≡ false }
     ensures { GoesOn desk.now pass result }
@@ -95,7 +86,11 @@ fn work<O: Marks, R: Wait>(
 }
 
 // Starts a desk over an empty tally with room for the calls.
-fn started<'p>(alloc: Global, plan: &'p u32, calls: u64) -> Result<(Desk<Tally<'p>>, Pass<Tally<'p>>), Fail>
+fn started<'p>(
+    alloc: Global,
+    plan: &'p u32,
+    calls: u64,
+) -> Result<(Desk<Tally<'p>>, Pass<Tally<'p>>), Fail>
     ensures desk { IfOk result (λ t. IsOf t.0 t.1) }
     ensures pass { IfOk result (λ t. IsNew t.1 [] plan.now calls) }
 {

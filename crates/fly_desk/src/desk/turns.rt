@@ -1,13 +1,13 @@
 //! The turns at a desk.
 use super::Desk;
 use crate::rule::Draw;
-use crate::wait::{OBJECT, TICKET, bring_home, wait_for};
+use crate::steps::{OBJECT, TICKET, bring_home, shut, wait_for};
 use crate::{Annals, Pass, Turn};
 use std::sync::Wait;
 
 impl<O: Annals> Desk<O> {
     ghost use Rattle.std.specs.Prelude.{◌≡◌, ◌+◌, ◌<◌, ◌≤◌, ◌∷◌, ◌++◌, [], true, false, Some, length};
-    ghost use Rattle.fly_desk.specs.History.{StartsWith, IsMadeOf};
+    ghost use Rattle.fly_desk.specs.History.{StartsWith, AtTheirPlaces, IsMadeOf};
     ghost use Rattle.fly_desk.specs.Turns.{AddsOne};
     ghost use Rattle.fly_desk.specs.Passes.{IsOf, seen, own, calls_left, calls_of, opening_of, basis_of, is_out, list_out, spare_out, HasSameStart, KeepsItsCalls};
 
@@ -21,6 +21,7 @@ impl<O: Annals> Desk<O> {
         ensures list { list_out pass.new ≡ O.entries result }
         ensures spare { (spare_out pass.new ≡ O.spare result) × (0 < O.spare result) }
         ensures seen { StartsWith (O.entries result) (seen pass.old) }
+        ensures placed { AtTheirPlaces (O.entries result) (own pass.old) }
         ensures basis { basis_of pass.new ≡ Some (O.basis result) }
         ensures start { HasSameStart pass.new pass.old }
         ensures kept { KeepsItsCalls pass.old pass.new }
@@ -58,9 +59,10 @@ impl<O: Annals> Desk<O> {
         ensures seen { StartsWith (O.entries result) (seen pass) }
         ensures basis { basis_of pass ≡ Some (O.basis result) }
         ensures history { IsMadeOf (O.entries result) (opening_of pass) (own pass) }
+        ensures number { length (O.entries result) + calls_left pass ≡ length (opening_of pass) + calls_of pass }
     {
         let Desk { table } = self;
-        let mut closed = table.close_with(pass.into_seat());
+        let mut closed = shut(table, pass.into_seat());
         let slot = closed.take(OBJECT);
         closed.free();
         slot.unwrap()

@@ -1,4 +1,4 @@
-use Rattle.std.proofs.Common.{rules, ◌≡◌, ◌≤◌, arith}
+use Rattle.std.proofs.Common.{rules, ◌≤◌}
 use Rattle.fly_desk.proofs.Dividing.{splits}
 use Rattle.fly_desk.proofs.shares.cut.Goals as goal
 

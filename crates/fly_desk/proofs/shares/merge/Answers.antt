@@ -1,4 +1,4 @@
-use Rattle.std.proofs.Common.{rules, ◌≡◌, ap, ◌∙◌}
+use Rattle.std.proofs.Common.{rules, ap, ◌∙◌}
 use Rattle.fly_desk.proofs.Dividing.{joins, settles}
 use Rattle.fly_desk.proofs.shares.merge.Goals as goal
 

@@ -1,4 +1,4 @@
-use Rattle.std.proofs.Common.{rules, ◌≡◌, ◌<◌, ℕ, ◌∙◌, subst}
+use Rattle.std.proofs.Common.{rules, ◌<◌, ℕ, ◌∙◌, subst}
 use Rattle.fly_desk.proofs.Keeps.{draws}
 use Rattle.fly_desk.proofs.Options.{none_of}
 use Rattle.fly_desk.proofs.desk.Desk.enter.Goals as goal

@@ -1,4 +1,4 @@
-use Rattle.std.proofs.Common.{rules, ◌≡◌, ◌∷◌, [], Some, ◌<◌, ◌^◌, arith, ap, sym, subst}
+use Rattle.std.proofs.Common.{rules, ◌≡◌, ◌∷◌, [], Some, ◌<◌, ◌^◌, ap, sym}
 use Rattle.fly_desk.proofs.Keeps.{starts_with}
 use Rattle.fly_desk.proofs.desk.Desk.start.Goals as goal
 

@@ -1,6 +1,9 @@
 //! The steps of a turn.
 ghost use Rattle.std.specs.Prelude.{◌≡◌, ◌+◌, ◌<◌, ◌≤◌, ◌∷◌, ◌++◌, [], true, is_some, Some, None, IfSome};
-ghost use Rattle.fly_desk.specs.History.{StartsWith};
+ghost use Rattle.std.specs.Mem.Slots.{slots_items, slots_len, IsFull};
+ghost use Rattle.atomic_table.specs.Table.{Final, Seen};
+ghost use Rattle.fly_desk.specs.declared.view.Origin.{Origin};
+ghost use Rattle.fly_desk.specs.History.{StartsWith, AtTheirPlaces, IsDesk};
 ghost use Rattle.fly_desk.specs.Steps.{taking, passing};
 ghost use Rattle.fly_desk.specs.Turns.{AddsOne, list_in, spare_in, basis_in};
 
@@ -8,7 +11,8 @@ use crate::Annals;
 use crate::pass::Place;
 use crate::rule::{Look, OneHistory, PassOn, Start};
 use crate::view::View;
-use atomic_table::Shared;
+use atomic_table::{Closed, Shared, Table};
+use std::alloc::Global;
 use std::sync::Wait;
 
 /// The word of the next ticket.
@@ -39,6 +43,7 @@ pub(crate) fn wait_for<O: Annals, R: Wait>(
     ensures place { (seat.new.table_id ≡ seat.old.table_id) × (seat.new.id ≡ seat.old.id) }
     ensures turn { seat.new.me ≡ (taking seat.old.me.0 (O.entries result) (O.spare result), (0, None) ∷ []) }
     ensures seen { StartsWith (O.entries result) seat.old.me.0.seen }
+    ensures placed { AtTheirPlaces (O.entries result) seat.old.me.0.own }
     ensures basis { IfSome seat.old.me.0.origin (λ o. O.basis result ≡ o.basis) }
     ensures spare { 0 < O.spare result }
 {
@@ -66,4 +71,23 @@ pub(crate) fn bring_home<O: Annals>(board: &Board<O>, seat: &mut Place<O>, objec
     let None = emptied else { unreachable!() };
     board.fetch_add::<PassOn>(seat, SERVING, 1);
     board.wake_all(SERVING);
+}
+
+/// Closes the table, in a state in which the seat has its view.
+pub(crate) fn shut<O: Annals>(
+    table: Table<
+        Option<O>,
+        View<<O as Annals>::Entry, <O as Annals>::Basis>,
+        Start<O>,
+        OneHistory<O>,
+        Global,
+    >,
+    seat: Place<O>,
+) -> Closed<Option<O>, Global>
+    requires { seat.table_id ≡ table.shared.table_id }
+    ensures counts { slots_len result.slots ≡ table.shared.table_id.slots }
+    ensures full { IsFull result.words × IsFull result.slots }
+    ensures last { (origin : Origin O.Entry O.Basis) × Final (Seen (IsDesk O.entries O.spare O.basis origin) seat.id seat.me.0) (slots_items result.words) (slots_items result.slots) }
+{
+    table.close_with(seat)
 }

@@ -1,8 +1,8 @@
-use Rattle.std.proofs.Common.{rules, ◌≡◌, ◌∷◌, [], Some, None, ap, sym, ◌∙◌}
+use Rattle.std.proofs.Common.{rules, ◌∷◌, Some, ap, sym, ◌∙◌}
 use Rattle.atomic_table.specs.Table.{rest}
 use Rattle.fly_desk.proofs.Keeps.{looks}
-use Rattle.fly_desk.proofs.Told.{served, not_served}
-use Rattle.fly_desk.proofs.wait.wait_for.Goals as goal
+use Rattle.fly_desk.proofs.Told.{served}
+use Rattle.fly_desk.proofs.steps.wait_for.Goals as goal
 
 pub load-serving-requires : goal.load-serving-requires
 load-serving-requires g c = let a = g.O.Annals in let same = c.loop.invariant.4 in (
