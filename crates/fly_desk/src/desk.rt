@@ -1,9 +1,7 @@
 //! The lock.
 ghost use Rattle.std.specs.Prelude.{◌≡◌, ◌∷◌, [], Some};
 
-use crate::pass::Place;
-use crate::rule::{OneHistory, Start};
-use crate::view::View;
+use crate::rule::{Board, Start};
 use crate::{Annals, Pass};
 use atomic_table::{Refused, Table};
 use std::alloc::Global;
@@ -14,19 +12,14 @@ mod turns;
 /// A ticket lock over an object with a growing list.
 #[derive(Drop)]
 pub struct Desk<O: Annals> {
-    pub(crate) table: Table<
-        Option<O>,
-        View<<O as Annals>::Entry, <O as Annals>::Basis>,
-        Start<O>,
-        OneHistory<O>,
-        Global,
-    >,
+    pub(crate) table: Board<O>,
     ghost sized: { (table.shared.table_id.words ≡ 2) × (table.shared.table_id.slots ≡ 1) },
 }
 
 /// Why no desk was started. The object comes back.
 #[derive(Drop)]
 pub enum StartFault<O> {
+    /// There was no memory for the desk.
     NoMemory(O),
 }
 
@@ -45,7 +38,7 @@ impl<O: Annals> Desk<O> {
     ghost use Rattle.fly_desk.specs.declared.desk.StartFault.TheVariants.{NoMemory};
     ghost use Rattle.fly_desk.specs.Passes.{IsOf, IsNew};
 
-    /// A desk over the object, and a pass with all the calls.
+    /// A desk over the object, and a pass with all the calls. Want of memory hands the object back.
     pub fn start(alloc: Global, object: O, calls: u64) -> Result<(Desk<O>, Pass<O>), StartFault<O>>
         requires { calls ≤ O.spare object }
         ensures desk { IfOk result (λ t. IsOf t.0 t.1) }

@@ -3,14 +3,11 @@ ghost use Rattle.std.specs.Prelude.{◌≡◌, ◌≤◌, is_some, true};
 ghost use Rattle.fly_desk.specs.History.{count_of};
 ghost use Rattle.fly_desk.specs.Turns.{slots_out};
 
+use crate::rule::Place;
 use crate::shares::{cut, merge};
-use crate::view::View;
 use crate::{Annals, Desk};
-use atomic_table::Seat;
 use fly_types::NoMemory;
 use std::marker::Brand;
-
-pub(crate) type Place<O> = Seat<Option<O>, View<<O as Annals>::Entry, <O as Annals>::Basis>>;
 
 /// The right to a number of calls, and in contracts what it has seen and its own calls with their places.
 pub struct Pass<O: Annals> {
@@ -43,6 +40,8 @@ impl<O: Annals> Pass<O> {
     }
 
     /// A pass for another worker, which has seen as much and has these of the calls that are left.
+    ///
+    /// It takes no memory today. `NoMemory` is there for a desk that keeps more for each pass, and leaves the pass as it was.
     pub fn split(&mut self, desk: &Desk<O>, calls: u64) -> Result<Pass<O>, NoMemory>
         requires desk { IsOf desk.now self.old }
         requires idle { is_out self.old ≡ false }

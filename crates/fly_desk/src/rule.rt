@@ -1,7 +1,8 @@
 //! The rule of the table, and what each step tells.
 use crate::Annals;
 use crate::view::View;
-use atomic_table::{Join, Play, Split, TableRule};
+use atomic_table::{Join, Play, Seat, Shared, Split, Table, TableRule};
+use std::alloc::Global;
 use std::marker::{Brand, PhantomData};
 use std::snapshot::Snapshot;
 
@@ -32,6 +33,26 @@ impl<O: Annals> TableRule<Option<O>, View<O::Entry, O::Basis>, Start<O>> for One
 
     ghost first = { λ start. opening_view (origin_at O.entries O.spare O.basis start.object.value start.calls) };
 }
+
+/// The words and the slot, with their memory.
+pub(crate) type Board<O> = Table<
+    Option<O>,
+    View<<O as Annals>::Entry, <O as Annals>::Basis>,
+    Start<O>,
+    OneHistory<O>,
+    Global,
+>;
+
+/// The words and the slot as threads share them.
+pub(crate) type Steps<O> = Shared<
+    Option<O>,
+    View<<O as Annals>::Entry, <O as Annals>::Basis>,
+    Start<O>,
+    OneHistory<O>,
+>;
+
+/// What a pass steps with.
+pub(crate) type Place<O> = Seat<Option<O>, View<<O as Annals>::Entry, <O as Annals>::Basis>>;
 
 /// A ticket is drawn.
 pub(crate) struct Draw;

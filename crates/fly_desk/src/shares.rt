@@ -4,13 +4,12 @@ ghost use Rattle.fly_desk.specs.History.{StartsWith};
 ghost use Rattle.fly_desk.specs.Steps.{keeping, given, merged, settled, longer};
 
 use crate::Annals;
-use crate::pass::Place;
-use crate::rule::{Amount, Cut, Merge, Settle};
-use crate::steps::{Board, TICKET};
+use crate::rule::{Amount, Cut, Merge, Place, Settle, Steps};
+use crate::steps::TICKET;
 
 /// Cuts a seat with these of the calls that are left from another.
 pub(crate) fn cut<O: Annals, N: Amount>(
-    board: &Board<O>,
+    board: &Steps<O>,
     seat: &mut Place<O>,
     calls: u64,
 ) -> Place<O>
@@ -24,7 +23,7 @@ pub(crate) fn cut<O: Annals, N: Amount>(
 }
 
 /// Takes in what another seat knows and has.
-pub(crate) fn merge<O: Annals>(board: &Board<O>, seat: &mut Place<O>, other: Place<O>)
+pub(crate) fn merge<O: Annals>(board: &Steps<O>, seat: &mut Place<O>, other: Place<O>)
     requires table { (seat.old.table_id ≡ board.now.table_id) × (other.table_id ≡ board.now.table_id) × (board.now.table_id.words ≡ 2) }
     requires idle { (seat.old.me.0.ticket ≡ None) × (seat.old.me.0.held ≡ None) }
     requires other { (other.me.0.ticket ≡ None) × (other.me.0.held ≡ None) × (other.me.1 ≡ []) }

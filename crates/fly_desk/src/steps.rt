@@ -8,10 +8,8 @@ ghost use Rattle.fly_desk.specs.Steps.{taking, passing};
 ghost use Rattle.fly_desk.specs.Turns.{AddsOne, list_in, spare_in, basis_in};
 
 use crate::Annals;
-use crate::pass::Place;
-use crate::rule::{Look, OneHistory, PassOn, Start};
-use crate::view::View;
-use atomic_table::{Closed, Shared, Table};
+use crate::rule::{Board, Look, PassOn, Place, Steps};
+use atomic_table::Closed;
 use std::alloc::Global;
 use std::sync::Wait;
 
@@ -24,17 +22,10 @@ const SERVING: usize = 1;
 /// The place of the object.
 pub(crate) const OBJECT: usize = 0;
 
-pub(crate) type Board<O> = Shared<
-    Option<O>,
-    View<<O as Annals>::Entry, <O as Annals>::Basis>,
-    Start<O>,
-    OneHistory<O>,
->;
-
 /// Waits until the ticket is served, and takes the object out. It sleeps on the served ticket's word between two looks.
 pub(crate) fn wait_for<O: Annals, R: Wait>(
     rt: &R,
-    board: &Board<O>,
+    board: &Steps<O>,
     seat: &mut Place<O>,
     ticket: u64,
 ) -> O
@@ -58,7 +49,7 @@ pub(crate) fn wait_for<O: Annals, R: Wait>(
 }
 
 /// Puts the object home, serves the next ticket and wakes whoever waits for it.
-pub(crate) fn bring_home<O: Annals>(board: &Board<O>, seat: &mut Place<O>, object: O)
+pub(crate) fn bring_home<O: Annals>(board: &Steps<O>, seat: &mut Place<O>, object: O)
     requires table { (seat.old.table_id ≡ board.now.table_id) × (board.now.table_id.words ≡ 2) × (board.now.table_id.slots ≡ 1) }
     requires turn { (is_some seat.old.me.0.origin ≡ true) × (is_some seat.old.me.0.held ≡ true) × (seat.old.me.1 ≡ (0, None) ∷ []) }
     requires entry { AddsOne (list_in seat.old.me.0) (O.entries object) }
@@ -74,16 +65,7 @@ pub(crate) fn bring_home<O: Annals>(board: &Board<O>, seat: &mut Place<O>, objec
 }
 
 /// Closes the table, in a state in which the seat has its view.
-pub(crate) fn shut<O: Annals>(
-    table: Table<
-        Option<O>,
-        View<<O as Annals>::Entry, <O as Annals>::Basis>,
-        Start<O>,
-        OneHistory<O>,
-        Global,
-    >,
-    seat: Place<O>,
-) -> Closed<Option<O>, Global>
+pub(crate) fn shut<O: Annals>(table: Board<O>, seat: Place<O>) -> Closed<Option<O>, Global>
     requires { seat.table_id ≡ table.shared.table_id }
     ensures counts { slots_len result.slots ≡ table.shared.table_id.slots }
     ensures full { IsFull result.words × IsFull result.slots }
