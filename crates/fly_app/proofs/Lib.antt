@@ -6,6 +6,7 @@ mod Messages
 mod Candidates
 mod Orders
 mod Sorting
+mod Telling
 mod RoundTrip
 mod Depths
 mod Documented
