@@ -1,5 +1,5 @@
 -- The bundles that are read: one task over INTEGER, and one workflow that runs it once.
-use Rattle.std.specs.Prelude.{◌≡◌, ◌≢◌, ℕ, List, [], ◌∷◌, ◌++◌, Bool, false, map, All, Contains, codes}
+use Rattle.std.specs.Prelude.{◌≡◌, ◌≢◌, ℕ, List, [], ◌∷◌, ◌++◌, Bool, false, map, All, Contains, Some, codes}
 use Rattle.std.specs.List.Sorted.{IsPermutation}
 use Rattle.fly_types.specs.declared.kinds.LiteralType.TheVariants as types
 use Rattle.fly_types.specs.declared.kinds.Simple.TheVariants as simple
@@ -12,7 +12,8 @@ use Rattle.fly_docs.specs.declared.workflow.Workflow.{Workflow}
 use Rattle.fly_docs.specs.declared.workflow.Bundle.{Bundle}
 use Rattle.fly_docs.specs.Names.{IsId, IsIdentifier, start_node, end_node}
 use Rattle.fly_docs.specs.Interfaces.{names_of, bound_names, AreInOrder, promised_node, promised_var}
-use Rattle.fly_docs.specs.Closures.{task_of}
+use Rattle.fly_docs.specs.declared.closure.Closure.{Closure}
+use Rattle.fly_docs.specs.Closures.{task_of, closure_of}
 
 -- a text that a template of an input could stand in
 abbrev pub HasTemplate : List ℕ → Type 0
@@ -74,3 +75,7 @@ pub record IsFirstForm (b : Bundle) (t : Task) (w : Workflow) (n : Node) : Type 
 -- some task, workflow and node are the bundle's
 abbrev pub FirstForm : Bundle → Type 0
 FirstForm b = (t : Task) × (w : Workflow) × (n : Node) × IsFirstForm b t w n
+
+-- the closure of such a bundle
+abbrev pub FirstClosure : Closure → Type 0
+FirstClosure c = (b : Bundle) × FirstForm b × (closure_of b ≡ Some c)

@@ -1,4 +1,5 @@
--- JSON values as the proto3 mapping writes messages: a field at its default is left out.
+-- JSON values as the proto3 mapping writes messages: a field at its default is left out. That a message is left out too where all its
+-- fields are is this project's own rule; the mapping writes `{}`.
 use Rattle.std.specs.Prelude.{ℕ, List, [], ◌∷◌, map, Option, Some, None}
 use Rattle.serde_json.specs.Data.{Data, string, array, object, Members, no_members, member, put}
 use Rattle.serde_json.specs.View.{items_of}

@@ -1,4 +1,5 @@
--- The closure that a bundle compiles to.
+-- The closure that a bundle compiles to, as CompiledWorkflowClosure of flyteidl (`core/compiler.proto`). What the connections hold is this
+-- project's own.
 use Rattle.std.specs.Prelude.{ℕ, List, [], ◌∷◌, map, filter, fold, find, Option, option_map, Bool, not}
 use Rattle.std.specs.List.{list_any}
 use Rattle.std.specs.Ordering.{nat_cmp}
@@ -30,18 +31,18 @@ needed_by nodes v = filter (needs v) nodes
 abbrev pub needing : List Node → Node → List Node
 needing nodes u = filter (λ v. needs v u) nodes
 
--- the nodes that need no other, and those that no other needs
+-- the nodes that need no node, and those that no node needs
 abbrev pub first_nodes : List Node → List Node
 first_nodes nodes = filter (λ v. not (list_any (needs v) nodes)) nodes
 
 abbrev pub last_nodes : List Node → List Node
 last_nodes nodes = filter (λ u. not (list_any (λ v. needs v u) nodes)) nodes
 
--- what each node has before it: the nodes that it needs, or the start; and before the end the nodes that no other needs
+-- what each node has before it: the nodes that it needs, or the start; and before the end the nodes that no node needs
 abbrev pub upstream_lists : List Node → List (List ℕ × List (List ℕ))
 upstream_lists nodes = (end_node, map (λ (n : Node). n.id) (last_nodes nodes)) ∷ map (λ (v : Node). (v.id, ids_or start_node (needed_by nodes v))) nodes
 
--- what each node has behind it: the nodes that need it, or the end; and behind the start the nodes that need no other
+-- what each node has behind it: the nodes that need it, or the end; and behind the start the nodes that need no node
 abbrev pub downstream_lists : List Node → List (List ℕ × List (List ℕ))
 downstream_lists nodes = (start_node, map (λ (n : Node). n.id) (first_nodes nodes)) ∷ map (λ (u : Node). (u.id, ids_or end_node (needing nodes u))) nodes
 

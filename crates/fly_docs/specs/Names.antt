@@ -1,14 +1,14 @@
--- Which texts are ids and fields of identifiers.
+-- Which texts are ids and fields of identifiers (`core/identifier.proto` of flyteidl). The limits are this project's own.
 use Rattle.std.specs.Prelude.{◌≡◌, ℕ, ◌≤◌, ◌==◌, ◌||◌, Bool, true, List, [], length, codes, nat_le, ◌&&◌}
 use Rattle.std.specs.List.{AllPass}
 use Rattle.std.specs.Char.{is_ascii_alphanumeric}
 use Rattle.fly_docs.specs.declared.names.Identifier.{Identifier}
 
--- the id by which a promise names an input of the workflow
+-- the id by which a promise names an input of the workflow, and which stands before the first nodes in its connections
 abbrev pub start_node : List ℕ
 start_node = codes "start-node"
 
--- the id that stands for the outputs of the workflow
+-- the id that stands for the outputs of the workflow, behind the last nodes
 abbrev pub end_node : List ℕ
 end_node = codes "end-node"
 

@@ -1,8 +1,8 @@
 use crate::{Task, Workflow};
 use fly_types::{List, Text};
 
-/// The ids before and behind each node, by node id, as flyteidl's `ConnectionSet`. Each list is sorted by the
-/// bytes of the id.
+/// The ids before and behind each node, by node id, sorted by its bytes. The message is flyteidl's
+/// `ConnectionSet`; which ids it holds is this project's own.
 #[derive(Debug, PartialEq, Eq, Drop)]
 pub struct Connections {
     pub upstream: List<(Text, List<Text>)>,

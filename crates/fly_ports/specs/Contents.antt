@@ -23,11 +23,11 @@ appended told path bytes = option_map (λ held. grown held path bytes) told
 abbrev pub AppendsPart : Option Contents → Option Contents → List ℕ → List ℕ → Type 0
 AppendsPart old new path bytes = (new ≡ old) ⊎ ((n : ℕ) × (new ≡ appended old path (take n bytes)))
 
--- these are the first bytes of what the path holds, as many as asked or all
+-- where contents are told, these are the first bytes of what the path holds, as many as asked or all
 abbrev pub IsRead : Option Contents → List ℕ → ℕ → List ℕ → Type 0
 IsRead told path most bytes = IfSome told (λ held. option_map (λ file. take most file) (held path) ≡ Some bytes)
 
--- there is no file at the path
+-- where contents are told, there is no file at the path
 abbrev pub Lacks : Option Contents → List ℕ → Type 0
 Lacks told path = IfSome told (λ held. held path ≡ None)
 

@@ -10,7 +10,8 @@ use std::alloc::Global;
 /// How many bytes of a program's output are kept at most.
 pub const MAX_OUTPUT: usize = 1_048_577;
 
-/// How a program ended: its status, if it had one, and what it wrote to its standard output.
+/// How a program ended: its status, if it had one, and the first `MAX_OUTPUT` bytes that it wrote to its standard
+/// output.
 #[derive(Debug, Drop, PartialEq, Eq)]
 pub struct Ended {
     pub status: Option<i32>,
@@ -37,6 +38,23 @@ pub struct Run {
     pub answer: Result<Ended, SpawnFault>,
 }
 
+impl Run {
+    pub fn copy(&self, alloc: Global) -> Result<Run, NoMemory>
+        ensures { IfOk result (λ run. run ≡ self.now) }
+    {
+        let answer = match &self.answer {
+            Ok(ended) => Ok(ended.copy(alloc)?),
+            Err(fault) => Err(*fault),
+        };
+        Ok(Run {
+            name: self.name.copy(alloc)?,
+            words: self.words.copy(alloc)?,
+            input: self.input.copy(alloc)?,
+            answer,
+        })
+    }
+}
+
 /// Runs programs, one at a time.
 pub trait Spawner {
     /// The runs so far, where they are told; a call that answered for want of memory is none.
@@ -46,7 +64,7 @@ pub trait Spawner {
     ghost faults: { Self → ℕ };
 
     /// Starts the first word with the others, hands it `input`, and waits for its end. A program that
-    /// leaves some of its input unread is no fault.
+    /// leaves some of its input unread is no fault. Output past `MAX_OUTPUT` bytes is dropped.
     fn run(
         &mut self,
         alloc: Global,

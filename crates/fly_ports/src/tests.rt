@@ -187,3 +187,23 @@ fn a_writer_is_a_sink(rt: HostRuntime) -> Result<(), Fail> {
     assert_eq!(rt; (sink.faults(), sink.writer().position()), (1, 4));
     Ok(())
 }
+
+#[test]
+fn copies_are_the_same(rt: HostRuntime) -> Result<(), Fail> {
+    let alloc = rt.alloc();
+    let copied = file(alloc, "a", Some(b"ab"), 3)?.copy(alloc)?;
+    assert_eq!(rt; copied.path.as_str(), "a");
+    assert!(rt; copied.content == Some(bytes(alloc, b"ab")?));
+    assert_eq!(rt; copied.room, 3);
+    let run = Run {
+        name: text(alloc, "e1/n0@0")?,
+        words: List::from_vec(vec![in alloc; text(alloc, "inc")?]?),
+        input: bytes(alloc, b"{}")?,
+        answer: Ok(Ended {
+            status: Some(0),
+            out: bytes(alloc, b"4")?,
+        }),
+    };
+    assert!(rt; run.copy(alloc)? == run);
+    Ok(())
+}
