@@ -68,3 +68,7 @@ IsMemberBy X type IsOf (LiteralType-F.Union variants) l =
 -- the literal is of the type
 abbrev pub IsMember : LiteralType → Literal → Type 0
 IsMember = rec-LiteralType (Literal → Type 0) IsMemberBy
+
+-- the variant is one of these types, and the value is of it
+abbrev pub IsVariant : List LiteralType → LiteralType → Literal → Type 0
+IsVariant types variant value = Some_of (λ t. (variant ≡ t) × IsMember t value) types

@@ -1,4 +1,4 @@
-ghost use Rattle.std.specs.Prelude.{◌≡◌, IfOk};
+ghost use Rattle.std.specs.Prelude.{◌≡◌, ◌↔◌, IfOk, IsTrue};
 
 use crate::{Boxed, List, NoMemory, Text, TryCopy};
 use std::alloc::Global;
@@ -25,7 +25,7 @@ pub struct BlobType {
 }
 
 /// The type of a literal, as flyteidl's `LiteralType`.
-#[derive(Debug, Drop, PartialEq, Eq)]
+#[derive(Debug, Drop)]
 pub enum LiteralType {
     Simple(Simple),
     Collection(Boxed<LiteralType>),
@@ -86,6 +86,78 @@ fn copy_types(alloc: Global, types: &[LiteralType]) -> Result<Vec<LiteralType>, 
         copied.push(kind.copy(alloc)?)?;
     }
     Ok(copied)
+}
+
+impl PartialEq for LiteralType {
+    ghost use Rattle.std.specs.Prelude.{◌≡◌, ◌↔◌, IsTrue};
+    ghost use Rattle.fly_types.specs.Same.{same_type, same_type-partial_laws};
+
+    ghost eq = { same_type };
+
+    ghost laws = { same_type-partial_laws };
+
+    fn eq(&self, other: &LiteralType) -> bool
+        ensures value { result ≡ same_type self.now other.now }
+        ensures same { IsTrue result ↔ (self.now ≡ other.now) }
+    {
+        self.is_same(other)
+    }
+}
+
+impl Eq for LiteralType {
+    ghost use Rattle.fly_types.specs.Same.{same_type-laws};
+
+    ghost laws = { same_type-laws };
+}
+
+impl LiteralType {
+    /// What `==` answers, for callers that want it as equality.
+    #[cycle(same_type)]
+    pub fn is_same(&self, other: &LiteralType) -> bool
+        ensures { IsTrue result ↔ (self.now ≡ other.now) }
+    {
+        match self {
+            LiteralType::Simple(a) => match other {
+                LiteralType::Simple(b) => a == b,
+                _ => false,
+            },
+            LiteralType::Collection(a) => match other {
+                LiteralType::Collection(b) => a.get().is_same(b.get()),
+                _ => false,
+            },
+            LiteralType::Map(a) => match other {
+                LiteralType::Map(b) => a.get().is_same(b.get()),
+                _ => false,
+            },
+            LiteralType::Blob(a) => match other {
+                LiteralType::Blob(b) => a == b,
+                _ => false,
+            },
+            LiteralType::Enum(a) => match other {
+                LiteralType::Enum(b) => a == b,
+                _ => false,
+            },
+            LiteralType::Union(a) => match other {
+                LiteralType::Union(b) => are_same_types(a.as_slice(), b.as_slice()),
+                _ => false,
+            },
+        }
+    }
+}
+
+#[cycle(same_type)]
+fn are_same_types(ones: &[LiteralType], others: &[LiteralType]) -> bool
+    ensures { IsTrue result ↔ (ones.now ≡ others.now) }
+{
+    if ones.len() != others.len() {
+        return false;
+    }
+    for (i, one) in ones.iter().enumerate() {
+        if !one.is_same(&others[i]) {
+            return false;
+        }
+    }
+    true
 }
 
 impl TryCopy for LiteralType {

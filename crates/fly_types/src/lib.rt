@@ -6,6 +6,7 @@ mod bytes;
 mod kinds;
 mod list;
 mod literals;
+mod membership;
 mod memory;
 mod text;
 
@@ -14,5 +15,6 @@ pub use bytes::Bytes;
 pub use kinds::{BlobType, LiteralType, Simple};
 pub use list::{List, TryCopy};
 pub use literals::{Literal, LiteralMap, Said, Tree, Variable};
+pub use membership::{is_member, simple_type};
 pub use memory::NoMemory;
 pub use text::Text;

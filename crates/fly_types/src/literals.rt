@@ -1,10 +1,10 @@
-ghost use Rattle.std.specs.Prelude.{◌≡◌, IfOk};
+ghost use Rattle.std.specs.Prelude.{◌≡◌, ◌↔◌, IfOk, IsTrue};
 
 use crate::{BlobType, Boxed, Bytes, List, LiteralType, NoMemory, Text, TryCopy};
 use std::alloc::Global;
 
 /// A JSON value whose numbers are whole, as the content of a STRUCT.
-#[derive(Debug, Drop, PartialEq, Eq)]
+#[derive(Debug, Drop)]
 pub enum Tree {
     Null,
     Bool(bool),
@@ -15,7 +15,7 @@ pub enum Tree {
 }
 
 /// A value of a workflow, as flyteidl's `Literal`.
-#[derive(Debug, Drop, PartialEq, Eq)]
+#[derive(Debug, Drop)]
 pub enum Literal {
     None,
     Integer(i64),
@@ -123,6 +123,94 @@ fn copy_members(alloc: Global, members: &[(Text, Tree)]) -> Result<Vec<(Text, Tr
     Ok(copied)
 }
 
+impl PartialEq for Tree {
+    ghost use Rattle.std.specs.Prelude.{◌≡◌, ◌↔◌, IsTrue};
+    ghost use Rattle.fly_types.specs.Same.{same_tree, same_tree-partial_laws};
+
+    ghost eq = { same_tree };
+
+    ghost laws = { same_tree-partial_laws };
+
+    fn eq(&self, other: &Tree) -> bool
+        ensures value { result ≡ same_tree self.now other.now }
+        ensures same { IsTrue result ↔ (self.now ≡ other.now) }
+    {
+        self.is_same(other)
+    }
+}
+
+impl Eq for Tree {
+    ghost use Rattle.fly_types.specs.Same.{same_tree-laws};
+
+    ghost laws = { same_tree-laws };
+}
+
+impl Tree {
+    /// What `==` answers, for callers that want it as equality.
+    #[cycle(same_tree)]
+    pub fn is_same(&self, other: &Tree) -> bool
+        ensures { IsTrue result ↔ (self.now ≡ other.now) }
+    {
+        match self {
+            Tree::Null => match other {
+                Tree::Null => true,
+                _ => false,
+            },
+            Tree::Bool(a) => match other {
+                Tree::Bool(b) => a == b,
+                _ => false,
+            },
+            Tree::Whole(a) => match other {
+                Tree::Whole(b) => a == b,
+                _ => false,
+            },
+            Tree::Text(a) => match other {
+                Tree::Text(b) => a == b,
+                _ => false,
+            },
+            Tree::List(a) => match other {
+                Tree::List(b) => are_same_trees(a.as_slice(), b.as_slice()),
+                _ => false,
+            },
+            Tree::Object(a) => match other {
+                Tree::Object(b) => are_same_members(a.as_slice(), b.as_slice()),
+                _ => false,
+            },
+        }
+    }
+}
+
+#[cycle(same_tree)]
+fn are_same_trees(ones: &[Tree], others: &[Tree]) -> bool
+    ensures { IsTrue result ↔ (ones.now ≡ others.now) }
+{
+    if ones.len() != others.len() {
+        return false;
+    }
+    for (i, one) in ones.iter().enumerate() {
+        if !one.is_same(&others[i]) {
+            return false;
+        }
+    }
+    true
+}
+
+#[cycle(same_tree)]
+fn are_same_members(ones: &[(Text, Tree)], others: &[(Text, Tree)]) -> bool
+    ensures { IsTrue result ↔ (ones.now ≡ others.now) }
+{
+    if ones.len() != others.len() {
+        return false;
+    }
+    for (i, (name, one)) in ones.iter().enumerate() {
+        let (other_name, other) = &others[i];
+        if name != other_name || !one.is_same(other) {
+            return false;
+        }
+    }
+    true
+}
+
 impl TryCopy for Tree {
     fn copy(&self, alloc: Global) -> Result<Tree, NoMemory> {
         Tree::copy(self, alloc)
@@ -204,6 +292,117 @@ fn copy_entries(
         copied.push((name, literal.copy(alloc)?))?;
     }
     Ok(copied)
+}
+
+impl PartialEq for Literal {
+    ghost use Rattle.std.specs.Prelude.{◌≡◌, ◌↔◌, IsTrue};
+    ghost use Rattle.fly_types.specs.Same.{same_literal, same_literal-partial_laws};
+
+    ghost eq = { same_literal };
+
+    ghost laws = { same_literal-partial_laws };
+
+    fn eq(&self, other: &Literal) -> bool
+        ensures value { result ≡ same_literal self.now other.now }
+        ensures same { IsTrue result ↔ (self.now ≡ other.now) }
+    {
+        self.is_same(other)
+    }
+}
+
+impl Eq for Literal {
+    ghost use Rattle.fly_types.specs.Same.{same_literal-laws};
+
+    ghost laws = { same_literal-laws };
+}
+
+impl Literal {
+    /// What `==` answers, for callers that want it as equality.
+    #[cycle(same_literal)]
+    pub fn is_same(&self, other: &Literal) -> bool
+        ensures { IsTrue result ↔ (self.now ≡ other.now) }
+    {
+        match self {
+            Literal::None => matches!(other, Literal::None),
+            Literal::Integer(a) => matches!(other, Literal::Integer(b) if a == b),
+            Literal::Text(a) => matches!(other, Literal::Text(b) if a == b),
+            Literal::Boolean(a) => matches!(other, Literal::Boolean(b) if a == b),
+            Literal::Datetime {
+                seconds: s,
+                nanos: n,
+            } => {
+                matches!(other, Literal::Datetime { seconds, nanos } if s == seconds && n == nanos)
+            }
+            Literal::Duration {
+                seconds: s,
+                nanos: n,
+            } => {
+                matches!(other, Literal::Duration { seconds, nanos } if s == seconds && n == nanos)
+            }
+            Literal::Blob { uri: u, form: f } => {
+                matches!(other, Literal::Blob { uri, form } if u == uri && f == form)
+            }
+            Literal::Binary { value: v, tag: t } => {
+                matches!(other, Literal::Binary { value, tag } if v == value && t == tag)
+            }
+            Literal::Error {
+                node: n,
+                message: m,
+            } => { matches!(other, Literal::Error { node, message } if n == node && m == message) }
+            Literal::Generic(a) => match other {
+                Literal::Generic(b) => a.is_same(b),
+                _ => false,
+            },
+            Literal::Union {
+                value: a,
+                variant: t,
+            } => match other {
+                Literal::Union { value: b, variant } => {
+                    t.get().is_same(variant.get()) && a.get().is_same(b.get())
+                }
+                _ => false,
+            },
+            Literal::Collection(a) => match other {
+                Literal::Collection(b) => are_same_literals(a.as_slice(), b.as_slice()),
+                _ => false,
+            },
+            Literal::Map(a) => match other {
+                Literal::Map(b) => are_same_entries(a.as_slice(), b.as_slice()),
+                _ => false,
+            },
+        }
+    }
+}
+
+#[cycle(same_literal)]
+fn are_same_literals(ones: &[Literal], others: &[Literal]) -> bool
+    ensures { IsTrue result ↔ (ones.now ≡ others.now) }
+{
+    if ones.len() != others.len() {
+        return false;
+    }
+    for (i, one) in ones.iter().enumerate() {
+        if !one.is_same(&others[i]) {
+            return false;
+        }
+    }
+    true
+}
+
+#[cycle(same_literal)]
+fn are_same_entries(ones: &[(Text, Literal)], others: &[(Text, Literal)]) -> bool
+    ensures { IsTrue result ↔ (ones.now ≡ others.now) }
+{
+    if ones.len() != others.len() {
+        return false;
+    }
+    for (i, (name, one)) in ones.iter().enumerate() {
+        let (other_name, other) = &others[i];
+        if name != other_name || !one.is_same(other) {
+            return false;
+        }
+    }
+    true
 }
 
 impl TryCopy for Literal {
