@@ -1,8 +1,8 @@
 -- What holds of each or of some element, as far as a loop has come.
-use Rattle.std.proofs.Common.{◌≡◌, ℕ, zero, suc, ◌+◌, ◌<◌, ◌≤◌, List, [], ◌∷◌, length, take, get_or, sym, subst, inl, inr, arith, add-one}
-use Rattle.std.specs.List.{All}
+use Rattle.std.proofs.Common.{◌≡◌, ℕ, zero, suc, ◌+◌, ◌<◌, ◌≤◌, List, [], ◌∷◌, ◌++◌, map, length, take, get_or, sym, ◌∙◌, ap, subst, inl, inr, arith, add-one, append_assoc, append-nil}
+use Rattle.std.specs.List.{All, concat}
 use Rattle.std.proofs.lemmas.List.Elements.{All-more, All-same}
-use Rattle.std.proofs.lemmas.List.{take_all}
+use Rattle.std.proofs.lemmas.List.{take_all, take_more}
 use Rattle.fly_types.specs.Membership.{Some_of}
 
 pub all_more : {X : Type 0} (P : X → Type 0) (xs : List X) (i : ℕ) (x : X) → i < length xs → x ≡ get_or xs i x → All P (take i xs) → P x → All P (take (i + 1) xs)
@@ -25,3 +25,18 @@ none_upto P (y ∷ ys) (suc i) x lt is before here (inr p) = none_upto P ys i x 
 
 pub none_more : {X : Type 0} (P : X → Type 0) (xs : List X) (i : ℕ) (x : X) → i < length xs → x ≡ get_or xs i x → (Some_of P (take i xs) → ⊥) → (P x → ⊥) → Some_of P (take (i + 1) xs) → ⊥
 none_more P xs i x lt is before here = rw (add-one i) (none_upto P xs i x lt is before here)
+
+concat_map-push : {X : Type 0} (f : X → List ℕ) (xs : List X) (x : X) → concat (map f (xs ++ x ∷ [])) ≡ concat (map f xs) ++ f x
+concat_map-push f [] x = append-nil (f x)
+concat_map-push f (y ∷ ys) x = ap (λ r. f y ++ r) (concat_map-push f ys x) ∙ sym (append_assoc (f y) (concat (map f ys)) (f x))
+
+-- what has been written after the first i parts, and then one more
+pub written_more : {X : Type 0} (f : X → List ℕ) (xs : List X) (i : ℕ) (x : X) (old now next : List ℕ) → i < length xs → x ≡ get_or xs i x
+    → now ≡ old ++ concat (map f (take i xs)) → next ≡ now ++ f x → next ≡ old ++ concat (map f (take (i + 1) xs))
+written_more f xs i x old now next lt is before step =
+    let more : take (i + 1) xs ≡ take i xs ++ x ∷ [] = take_more xs i x lt ∙ ap (λ y. take i xs ++ y ∷ []) (sym is) in
+    let whole : concat (map f (take (i + 1) xs)) ≡ concat (map f (take i xs)) ++ f x = ap (λ ys. concat (map f ys)) more ∙ concat_map-push f (take i xs) x in
+    step ∙ ap (λ r. r ++ f x) before ∙ append_assoc old (concat (map f (take i xs))) (f x) ∙ ap (λ r. old ++ r) (sym whole)
+
+pub written_both : (old mid next first second : List ℕ) → mid ≡ old ++ first → next ≡ mid ++ second → next ≡ old ++ (first ++ second)
+written_both old mid next first second p q = q ∙ ap (λ r. r ++ second) p ∙ append_assoc old first second

@@ -16,12 +16,16 @@ use Rattle.fly_types.specs.declared.literals.Tree.{Tree}
 use Rattle.fly_types.specs.declared.literals.Tree.TheOpen.{Tree-F}
 use Rattle.fly_types.specs.declared.literals.Tree.TheFolds.{fold-Tree}
 
-abbrev pub count : ℕ → List ℕ
-count n = to_be_bytes w64 n
+-- the bytes of a number at a width, the highest first
+unfoldable pub big_endian : Width → ℕ → List ℕ
+big_endian w n = to_be_bytes w n
 
--- two's complement, big-endian
+abbrev pub count : ℕ → List ℕ
+count n = big_endian w64 n
+
+-- in two's complement
 abbrev pub signed : Width → ℤ → List ℕ
-signed w value = to_be_bytes w (cast_unsigned w value)
+signed w value = big_endian w (cast_unsigned w value)
 
 abbrev pub flag : Bool → List ℕ
 flag b = (if b then 1 else 0) ∷ []
@@ -62,7 +66,7 @@ type_bytes_by (LiteralType-F.Blob form) = 0x13 ∷ blob_form form
 type_bytes_by (LiteralType-F.Enum values) = 0x14 ∷ listed (map counted values)
 type_bytes_by (LiteralType-F.Union variants) = 0x15 ∷ listed variants
 
-abbrev pub type_bytes : LiteralType → List ℕ
+unfoldable pub type_bytes : LiteralType → List ℕ
 type_bytes = fold-LiteralType (List ℕ) type_bytes_by
 
 abbrev pub tree_bytes_by : Tree-F (List ℕ) → List ℕ
@@ -73,7 +77,7 @@ tree_bytes_by (Tree-F.Text text) = 0x03 ∷ counted text
 tree_bytes_by (Tree-F.List trees) = 0x04 ∷ listed trees
 tree_bytes_by (Tree-F.Object members) = 0x05 ∷ listed (map named members)
 
-abbrev pub tree_bytes : Tree → List ℕ
+unfoldable pub tree_bytes : Tree → List ℕ
 tree_bytes = fold-Tree (List ℕ) tree_bytes_by
 
 abbrev pub literal_bytes_by : Literal-F (List ℕ) → List ℕ
@@ -81,7 +85,7 @@ literal_bytes_by Literal-F.None = 0x01 ∷ []
 literal_bytes_by (Literal-F.Integer value) = 0x02 ∷ signed w64 value
 literal_bytes_by (Literal-F.Text text) = 0x03 ∷ counted text
 literal_bytes_by (Literal-F.Boolean value) = 0x04 ∷ flag value
-literal_bytes_by (Literal-F.Datetime seconds nanos) = 0x05 ∷ (signed w64 seconds ++ to_be_bytes w32 nanos)
+literal_bytes_by (Literal-F.Datetime seconds nanos) = 0x05 ∷ (signed w64 seconds ++ big_endian w32 nanos)
 literal_bytes_by (Literal-F.Duration seconds nanos) = 0x06 ∷ (signed w64 seconds ++ signed w32 nanos)
 literal_bytes_by (Literal-F.Blob uri form) = 0x07 ∷ (counted uri ++ blob_form form)
 literal_bytes_by (Literal-F.Binary value tag) = 0x08 ∷ (counted value ++ counted tag)
@@ -91,9 +95,16 @@ literal_bytes_by (Literal-F.Union value variant) = 0x0b ∷ (type_bytes variant 
 literal_bytes_by (Literal-F.Map entries) = 0x0c ∷ listed (map named entries)
 literal_bytes_by (Literal-F.Collection elements) = 0x0d ∷ listed elements
 
-abbrev pub literal_bytes : Literal → List ℕ
+unfoldable pub literal_bytes : Literal → List ℕ
 literal_bytes = fold-Literal (List ℕ) literal_bytes_by
+
+-- a member of an object, and an entry of a map
+abbrev pub member_bytes : List ℕ × Tree → List ℕ
+member_bytes member = named (member.0, tree_bytes member.1)
+
+abbrev pub entry_bytes : List ℕ × Literal → List ℕ
+entry_bytes entry = named (entry.0, literal_bytes entry.1)
 
 -- those of the map literal with the same entries
 abbrev pub map_bytes : LiteralMap → List ℕ
-map_bytes m = 0x0c ∷ listed (map (λ entry. named (entry.0, literal_bytes entry.1)) m.entries)
+map_bytes m = 0x0c ∷ listed (map entry_bytes m.entries)

@@ -3,6 +3,7 @@
 
 mod boxed;
 mod bytes;
+mod encode;
 mod kinds;
 mod list;
 mod literals;
@@ -12,6 +13,7 @@ mod text;
 
 pub use boxed::Boxed;
 pub use bytes::Bytes;
+pub use encode::canonical;
 pub use kinds::{BlobType, LiteralType, Simple};
 pub use list::{List, TryCopy};
 pub use literals::{Literal, LiteralMap, Said, Tree, Variable};
