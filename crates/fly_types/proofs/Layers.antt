@@ -29,7 +29,7 @@ use Rattle.fly_types.specs.Canonical.{big_endian, count, signed, flag, counted, 
 abbrev pub all_bytes : {X : Type 0} → (X → List ℕ) → List X → List ℕ
 all_bytes f xs = count (length xs) ++ concat (map f xs)
 
-listed-map : {X : Type 0} (f : X → List ℕ) (xs : List X) → listed (map f xs) ≡ all_bytes f xs
+pub listed-map : {X : Type 0} (f : X → List ℕ) (xs : List X) → listed (map f xs) ≡ all_bytes f xs
 listed-map f xs = ap (λ n. count n ++ concat (map f xs)) (length-map xs f)
 
 map-map : {X Y : Type 0} (f : X → Y) (g : Y → List ℕ) (xs : List X) → map g (map f xs) ≡ map (λ x. g (f x)) xs

@@ -1,5 +1,5 @@
 -- The canonical bytes of a value, on which cache keys rest: its tag, then its parts. A length or a count is 8 bytes, big-endian.
-use Rattle.std.specs.Prelude.{ℕ, ℤ, Bool, true, false, if◌then◌else◌, List, [], ◌∷◌, ◌++◌, map, length}
+use Rattle.std.specs.Prelude.{ℕ, ℤ, Bool, if◌then◌else◌, List, [], ◌∷◌, ◌++◌, map, length}
 use Rattle.std.specs.Int.{Width, w32, w64, to_be_bytes, cast_unsigned}
 use Rattle.std.specs.List.{concat}
 use Rattle.fly_types.specs.declared.kinds.Simple.{Simple}

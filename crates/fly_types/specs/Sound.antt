@@ -1,5 +1,5 @@
 -- What every literal and type of a document keeps: the ranges and the order of the proto3 JSON mapping, and the limits on levels.
-use Rattle.std.specs.Prelude.{◌≡◌, ◌⊎◌, ℕ, ◌+◌, ◌*◌, ◌-◌, ◌^◌, ◌<◌, ◌≤◌, max, ℤ, pos, neg_ℤ, nat_abs, ◌≤ℤ◌, List, [], ◌∷◌, map, length, FitsSigned, ⊤}
+use Rattle.std.specs.Prelude.{◌⊎◌, ℕ, ◌+◌, ◌*◌, ◌^◌, ◌<◌, ◌≤◌, max, ℤ, pos, neg_ℤ, nat_abs, ◌≤ℤ◌, List, [], ◌∷◌, map, length, FitsSigned, ⊤}
 use Rattle.std.specs.Int.{w64}
 use Rattle.std.specs.List.{All}
 use Rattle.std.specs.List.Sorted.{IsStrictlySortedBy}

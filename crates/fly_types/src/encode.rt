@@ -2,6 +2,8 @@ ghost use Rattle.std.specs.Prelude.{◌≡◌, ◌++◌, map, IfOk, OnOk};
 ghost use Rattle.std.specs.Int.{w32, w64};
 ghost use Rattle.std.specs.List.{concat};
 ghost use Rattle.fly_types.specs.Canonical.{big_endian, count, signed, counted, blob_form, simple_number, type_bytes, tree_bytes, literal_bytes, map_bytes, entry_bytes, member_bytes};
+ghost use Rattle.fly_types.specs.Sound.{IsSound, IsSoundMap, IsSoundType, IsSoundStruct};
+ghost use Rattle.fly_types.specs.OneReading.{HaveMapsOwnBytes, IsPrefixFree};
 
 use crate::{BlobType, Literal, LiteralMap, LiteralType, NoMemory, Simple, Text, Tree};
 use std::alloc::Global;
@@ -292,3 +294,17 @@ fn write_entries(out: &mut Vec<u8>, entries: &[(Text, Literal)]) -> Result<(), N
     }
     Ok(())
 }
+
+/// Two maps of literals with the same canonical bytes are one map. The call does nothing: its contract is the law.
+pub fn maps_have_own_bytes()
+    ensures { HaveMapsOwnBytes }
+{}
+
+/// No value's canonical bytes are a prefix of another's, so that they can be told apart wherever they stand. The call
+/// does nothing: its contract is the law.
+pub fn bytes_are_prefix_free()
+    ensures literals { IsPrefixFree IsSound literal_bytes }
+    ensures maps { IsPrefixFree IsSoundMap map_bytes }
+    ensures types { IsPrefixFree IsSoundType type_bytes }
+    ensures structs { IsPrefixFree IsSoundStruct tree_bytes }
+{}

@@ -13,7 +13,7 @@ mod text;
 
 pub use boxed::Boxed;
 pub use bytes::Bytes;
-pub use encode::canonical;
+pub use encode::{bytes_are_prefix_free, canonical, maps_have_own_bytes};
 pub use kinds::{BlobType, LiteralType, Simple};
 pub use list::{List, TryCopy};
 pub use literals::{Literal, LiteralMap, Said, Tree, Variable};

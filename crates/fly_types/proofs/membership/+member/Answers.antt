@@ -1,8 +1,7 @@
 use mathlib.Core.Bool.{true≢false}
-use Rattle.std.proofs.Common.{refl, sym, ap, ◌∙◌, ◌≡◌, ◌↔◌, IsTrue}
+use Rattle.std.proofs.Common.{refl, sym, ap, ◌∙◌, ◌≡◌}
 use Rattle.fly_types.specs.declared.kinds.LiteralType.{out-LiteralType}
-use Rattle.fly_types.specs.declared.literals.Literal.{out-Literal}
-use Rattle.fly_types.specs.Membership.{IsMember, IsCollectionOf, IsMapOf, IsBlobOf, IsTextAmong, IsUnionWhere, IsVariant, simple_type}
+use Rattle.fly_types.specs.Membership.{IsMember}
 use Rattle.fly_types.specs.declared.kinds.LiteralType.TheOpen.{LiteralType-F}
 use Rattle.fly_types.specs.declared.kinds.LiteralType.TheViews.{outs-Simple, outs-Collection, outs-Map, outs-Blob, outs-Enum, outs-Union}
 use Rattle.fly_types.proofs.Member.{answers_member}
