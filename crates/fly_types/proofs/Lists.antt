@@ -1,8 +1,10 @@
 -- What holds of each or of some element, as far as a loop has come.
-use Rattle.std.proofs.Common.{◌≡◌, ℕ, zero, suc, ◌+◌, ◌<◌, ◌≤◌, List, [], ◌∷◌, ◌++◌, map, length, take, get_or, sym, ◌∙◌, ap, subst, inl, inr, arith, add-one, append_assoc, append-nil}
+use Rattle.std.proofs.Common.{◌≡◌, ℕ, zero, suc, ◌+◌, ◌<◌, ◌≤◌, List, [], ◌∷◌, ◌++◌, map, length, take, get_or, sym, ◌∙◌, ap, subst, inl, inr, arith, add-one, append_assoc, append-nil, refl, max}
 use Rattle.std.specs.List.{All, concat}
 use Rattle.std.proofs.lemmas.List.Elements.{All-more, All-same}
 use Rattle.std.proofs.lemmas.List.{take_all, take_more}
+use Rattle.std.proofs.lemmas.List.Recursion.{max_bounds, max_push}
+use Rattle.fly_types.specs.Levels.{largest}
 use Rattle.fly_types.specs.Membership.{Some_of}
 
 pub all_more : {X : Type 0} (P : X → Type 0) (xs : List X) (i : ℕ) (x : X) → i < length xs → x ≡ get_or xs i x → All P (take i xs) → P x → All P (take (i + 1) xs)
@@ -40,3 +42,14 @@ written_more f xs i x old now next lt is before step =
 
 pub written_both : (old mid next first second : List ℕ) → mid ≡ old ++ first → next ≡ mid ++ second → next ≡ old ++ (first ++ second)
 written_both old mid next first second p q = q ∙ ap (λ r. r ++ second) p ∙ append_assoc old first second
+
+pub largest_at : {X : Type 0} (f : X → ℕ) (xs : List X) (i : ℕ) (x : X) → i < length xs → x ≡ get_or xs i x → f x ≤ largest (map f xs)
+largest_at f xs i x lt is = subst (λ y. f y ≤ largest (map f xs)) (sym is) (max_bounds (λ ys. largest (map f ys)) f refl (λ _ _. refl) xs i x lt)
+
+pub largest_more : {X : Type 0} (f : X → ℕ) (xs : List X) (i : ℕ) (x : X) (n : ℕ) → i < length xs → x ≡ get_or xs i x → largest (map f (take i xs)) ≤ n → f x ≤ n
+    → largest (map f (take (i + 1) xs)) ≤ n
+largest_more f xs i x n lt is before here =
+    let more : take (i + 1) xs ≡ take i xs ++ x ∷ [] = take_more xs i x lt ∙ ap (λ y. take i xs ++ y ∷ []) (sym is) in
+    let step : largest (map f (take i xs ++ x ∷ [])) ≡ max (largest (map f (take i xs))) (f x) =
+          max_push (λ ys. largest (map f ys)) f refl (λ _ _. refl) (take i xs) x in
+    omega (arith, ap (λ ys. largest (map f ys)) more, step, before, here)

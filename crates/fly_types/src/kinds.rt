@@ -1,4 +1,5 @@
-ghost use Rattle.std.specs.Prelude.{◌≡◌, ◌↔◌, IfOk, IsTrue};
+ghost use Rattle.std.specs.Prelude.{◌≡◌, ◌↔◌, ◌≤◌, IfOk, IsTrue, map};
+ghost use Rattle.fly_types.specs.Levels.{type_levels, largest};
 
 use crate::{Boxed, List, NoMemory, Text, TryCopy};
 use std::alloc::Global;
@@ -154,6 +155,37 @@ fn are_same_types(ones: &[LiteralType], others: &[LiteralType]) -> bool
     }
     for (i, one) in ones.iter().enumerate() {
         if !one.is_same(&others[i]) {
+            return false;
+        }
+    }
+    true
+}
+
+impl LiteralType {
+    /// Whether the type has at most so many levels. A type without parts is one level, and a collection, a map or a
+    /// union one more than its deepest part.
+    #[cycle(levels)]
+    pub fn has_at_most(&self, levels: usize) -> bool
+        ensures { IsTrue result ↔ (type_levels self.now ≤ levels) }
+    {
+        if levels == 0 {
+            return false;
+        }
+        match self {
+            LiteralType::Simple(_) | LiteralType::Blob(_) | LiteralType::Enum(_) => true,
+            LiteralType::Collection(element) => element.get().has_at_most(levels - 1),
+            LiteralType::Map(value) => value.get().has_at_most(levels - 1),
+            LiteralType::Union(variants) => have_at_most(variants.as_slice(), levels - 1),
+        }
+    }
+}
+
+#[cycle(levels)]
+fn have_at_most(kinds: &[LiteralType], levels: usize) -> bool
+    ensures { IsTrue result ↔ (largest (map type_levels kinds.now) ≤ levels) }
+{
+    for kind in kinds {
+        if !kind.has_at_most(levels) {
             return false;
         }
     }

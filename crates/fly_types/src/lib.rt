@@ -9,6 +9,8 @@ mod list;
 mod literals;
 mod membership;
 mod memory;
+#[cfg(test)]
+mod tests;
 mod text;
 
 pub use boxed::Boxed;

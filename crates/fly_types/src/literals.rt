@@ -422,6 +422,15 @@ impl LiteralMap {
     }
 }
 
+impl LiteralMap {
+    /// What `==` answers, for callers that want it as equality.
+    pub fn is_same(&self, other: &LiteralMap) -> bool
+        ensures { IsTrue result ↔ (self.now ≡ other.now) }
+    {
+        are_same_entries(self.entries.as_slice(), other.entries.as_slice())
+    }
+}
+
 impl TryCopy for LiteralMap {
     fn copy(&self, alloc: Global) -> Result<LiteralMap, NoMemory> {
         LiteralMap::copy(self, alloc)
