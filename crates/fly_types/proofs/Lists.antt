@@ -51,5 +51,5 @@ pub largest_more : {X : Type 0} (f : X → ℕ) (xs : List X) (i : ℕ) (x : X) 
 largest_more f xs i x n lt is before here =
     let more : take (i + 1) xs ≡ take i xs ++ x ∷ [] = take_more xs i x lt ∙ ap (λ y. take i xs ++ y ∷ []) (sym is) in
     let step : largest (map f (take i xs ++ x ∷ [])) ≡ max (largest (map f (take i xs))) (f x) =
-          max_push (λ ys. largest (map f ys)) f refl (λ _ _. refl) (take i xs) x in
+    max_push (λ ys. largest (map f ys)) f refl (λ _ _. refl) (take i xs) x in
     omega (arith, ap (λ ys. largest (map f ys)) more, step, before, here)

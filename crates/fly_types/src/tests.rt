@@ -2,8 +2,20 @@
 mod bytes;
 mod members;
 
-use crate::{BlobType, Boxed, List, Literal, LiteralType, NoMemory, Simple, Text, Tree};
+use crate::{BlobType, Boxed, Bytes, List, Literal, LiteralType, NoMemory, Simple, Text, Tree};
 use std::alloc::Global;
+
+const SIMPLES: [Simple; 9] = [
+    Simple::None,
+    Simple::Integer,
+    Simple::Text,
+    Simple::Boolean,
+    Simple::Datetime,
+    Simple::Duration,
+    Simple::Binary,
+    Simple::Error,
+    Simple::Struct,
+];
 
 fn text(alloc: Global, text: &str) -> Result<Text, NoMemory> {
     Text::from_str(alloc, text)
@@ -31,10 +43,26 @@ fn text_or_none(alloc: Global) -> Result<LiteralType, NoMemory> {
 }
 
 fn csv(alloc: Global, multipart: bool) -> Result<BlobType, NoMemory> {
-    Ok(BlobType {
-        format: text(alloc, "csv")?,
-        multipart,
-    })
+    let format = text(alloc, "csv")?;
+    Ok(BlobType { format, multipart })
+}
+
+fn blob(alloc: Global, multipart: bool) -> Result<Literal, NoMemory> {
+    let uri = text(alloc, "u")?;
+    let form = csv(alloc, multipart)?;
+    Ok(Literal::Blob { uri, form })
+}
+
+fn binary(alloc: Global) -> Result<Literal, NoMemory> {
+    let value = Bytes::from_vec(Vec::from_slice(alloc, &[0x00, 0xff])?);
+    let tag = text(alloc, "t")?;
+    Ok(Literal::Binary { value, tag })
+}
+
+fn error(alloc: Global) -> Result<Literal, NoMemory> {
+    let node = text(alloc, "n")?;
+    let message = text(alloc, "m")?;
+    Ok(Literal::Error { node, message })
 }
 
 fn collection(alloc: Global, first: Literal, second: Literal) -> Result<Literal, NoMemory> {
@@ -48,22 +76,23 @@ fn map(alloc: Global, first: Literal, second: Literal) -> Result<Literal, NoMemo
 }
 
 fn union(alloc: Global, value: Literal, variant: LiteralType) -> Result<Literal, NoMemory> {
-    Ok(Literal::Union {
-        value: Boxed::new(alloc, value)?,
-        variant: Boxed::new(alloc, variant)?,
-    })
+    let value = Boxed::new(alloc, value)?;
+    let variant = Boxed::new(alloc, variant)?;
+    Ok(Literal::Union { value, variant })
 }
 
-/// `{"a": null, "b": [true, -1, "t"]}`
-fn object(alloc: Global) -> Result<Tree, NoMemory> {
-    let list = vec![in alloc;
+/// `[true, -1, "t"]`
+fn tree_list(alloc: Global) -> Result<Tree, NoMemory> {
+    let trees = vec![in alloc;
         Tree::Bool(true),
         Tree::Whole(-1),
         Tree::Text(text(alloc, "t")?),
     ]?;
-    let members = vec![in alloc;
-        (text(alloc, "a")?, Tree::Null),
-        (text(alloc, "b")?, Tree::List(List::from_vec(list))),
-    ]?;
+    Ok(Tree::List(List::from_vec(trees)))
+}
+
+/// An object with the members `a` and `b`.
+fn object(alloc: Global, first: Tree, second: Tree) -> Result<Tree, NoMemory> {
+    let members = vec![in alloc; (text(alloc, "a")?, first), (text(alloc, "b")?, second)]?;
     Ok(Tree::Object(List::from_vec(members)))
 }

@@ -1,50 +1,41 @@
 //! Which literals are of which type, with near misses, and copies that equal what they copy.
 use super::{
-    collection, collection_type, csv, map, map_type, object, text, text_or_none, texts, union,
+    SIMPLES, binary, blob, collection, collection_type, csv, error, map, map_type, object, text,
+    text_or_none, texts, tree_list, union,
 };
 use crate::{
-    Bytes, List, Literal, LiteralMap, LiteralType, NoMemory, Said, Simple, Variable, is_member,
+    List, Literal, LiteralMap, LiteralType, NoMemory, Said, Simple, Tree, Variable, is_member,
 };
 use std::alloc::Global;
 use std::test::Fail;
 
-fn scalars(alloc: Global) -> Result<Vec<(Simple, Literal)>, NoMemory> {
-    let binary = Literal::Binary {
-        value: Bytes::from_vec(Vec::new(alloc)),
-        tag: text(alloc, "t")?,
-    };
-    let error = Literal::Error {
-        node: text(alloc, "n")?,
-        message: text(alloc, "m")?,
-    };
-    let instant = Literal::Datetime {
-        seconds: 0,
-        nanos: 0,
-    };
-    let span = Literal::Duration {
-        seconds: 0,
-        nanos: 0,
-    };
-    let scalars = vec![in alloc;
-        (Simple::None, Literal::None),
-        (Simple::Integer, Literal::Integer(0)),
-        (Simple::Text, Literal::Text(text(alloc, "t")?)),
-        (Simple::Boolean, Literal::Boolean(false)),
-        (Simple::Datetime, instant),
-        (Simple::Duration, span),
-        (Simple::Binary, binary),
-        (Simple::Error, error),
-        (Simple::Struct, Literal::Generic(object(alloc)?)),
-    ]?;
-    Ok(scalars)
+fn scalar(alloc: Global, simple: Simple) -> Result<Literal, NoMemory> {
+    match simple {
+        Simple::None => Ok(Literal::None),
+        Simple::Integer => Ok(Literal::Integer(0)),
+        Simple::Text => Ok(Literal::Text(text(alloc, "t")?)),
+        Simple::Boolean => Ok(Literal::Boolean(false)),
+        Simple::Datetime => Ok(Literal::Datetime {
+            seconds: 0,
+            nanos: 0,
+        }),
+        Simple::Duration => Ok(Literal::Duration {
+            seconds: 0,
+            nanos: 0,
+        }),
+        Simple::Binary => binary(alloc),
+        Simple::Error => error(alloc),
+        Simple::Struct => Ok(Literal::Generic(object(alloc, Tree::Null, Tree::Null)?)),
+    }
 }
 
 #[test]
 fn a_scalar_is_of_its_own_simple_type_alone(rt: HostRuntime) -> Result<(), Fail> {
-    for (simple, literal) in &scalars(rt.alloc())? {
-        for (other, _) in &scalars(rt.alloc())? {
+    for simple in SIMPLES {
+        let literal = scalar(rt.alloc(), simple)?;
+        for other in SIMPLES {
             assert_eq!(rt;
-                is_member(literal, &LiteralType::Simple(*other)),
+                is_member(&literal, &LiteralType::Simple(other)),
                 simple == other
             );
         }
@@ -86,15 +77,12 @@ fn every_value_of_a_map_counts(rt: HostRuntime) -> Result<(), Fail> {
 #[test]
 fn a_blob_has_the_form_of_its_type(rt: HostRuntime) -> Result<(), Fail> {
     let alloc = rt.alloc();
-    let blob = Literal::Blob {
-        uri: text(alloc, "s3://b/k")?,
-        form: csv(alloc, false)?,
-    };
+    let one = blob(alloc, false)?;
     let mut parquet = csv(alloc, false)?;
     parquet.format = text(alloc, "parquet")?;
-    assert!(rt; is_member(&blob, &LiteralType::Blob(csv(alloc, false)?)));
-    assert!(rt; !is_member(&blob, &LiteralType::Blob(csv(alloc, true)?)));
-    assert!(rt; !is_member(&blob, &LiteralType::Blob(parquet)));
+    assert!(rt; is_member(&one, &LiteralType::Blob(csv(alloc, false)?)));
+    assert!(rt; !is_member(&one, &LiteralType::Blob(csv(alloc, true)?)));
+    assert!(rt; !is_member(&one, &LiteralType::Blob(parquet)));
     Ok(())
 }
 
@@ -108,23 +96,25 @@ fn an_enum_has_its_texts_alone(rt: HostRuntime) -> Result<(), Fail> {
     Ok(())
 }
 
+/// Whether the union scalar of the text `hi` under the variant is of the union of STRING and NONE.
+fn is_text_or_none(alloc: Global, variant: LiteralType) -> Result<bool, NoMemory> {
+    let value = Literal::Text(text(alloc, "hi")?);
+    let scalar = union(alloc, value, variant)?;
+    let kind = text_or_none(alloc)?;
+    Ok(is_member(&scalar, &kind))
+}
+
 #[test]
 fn a_union_scalar_carries_one_of_the_variants(rt: HostRuntime) -> Result<(), Fail> {
     let alloc = rt.alloc();
+    assert!(rt; is_text_or_none(alloc, LiteralType::Simple(Simple::Text))?);
+    // the text is of this variant, which the type lacks
+    let other = LiteralType::Enum(texts(alloc, "hi", "ho")?);
+    assert!(rt; !is_text_or_none(alloc, other)?);
+    // the type has this variant, and the text isn't of it
+    assert!(rt; !is_text_or_none(alloc, LiteralType::Simple(Simple::None))?);
     let kind = text_or_none(alloc)?;
-    let hi = Literal::Text(text(alloc, "hi")?);
-    let as_text = union(alloc, hi.copy(alloc)?, LiteralType::Simple(Simple::Text))?;
-    // the same text under a variant that the type lacks, and under one that it isn't of
-    let as_enum = union(
-        alloc,
-        hi.copy(alloc)?,
-        LiteralType::Enum(texts(alloc, "hi", "ho")?),
-    )?;
-    let as_none = union(alloc, hi.copy(alloc)?, LiteralType::Simple(Simple::None))?;
-    assert!(rt; is_member(&as_text, &kind));
-    assert!(rt; !is_member(&as_enum, &kind));
-    assert!(rt; !is_member(&as_none, &kind));
-    assert!(rt; !is_member(&hi, &kind));
+    assert!(rt; !is_member(&Literal::None, &kind));
     Ok(())
 }
 
@@ -153,32 +143,42 @@ fn deep_types(rt: HostRuntime) -> Result<(), Fail> {
     Ok(())
 }
 
+/// A map whose entries are a union scalar over a STRUCT, and a collection.
+fn outputs(alloc: Global) -> Result<LiteralMap, NoMemory> {
+    let tree = object(alloc, Tree::Null, tree_list(alloc)?)?;
+    let variant = LiteralType::Enum(texts(alloc, "a", "b")?);
+    let scalar = union(alloc, Literal::Generic(tree), variant)?;
+    let list = collection(alloc, blob(alloc, true)?, binary(alloc)?)?;
+    let both = map(alloc, scalar, list)?;
+    let entries = vec![in alloc; (text(alloc, "y")?, both)]?;
+    Ok(LiteralMap {
+        entries: List::from_vec(entries),
+    })
+}
+
 #[test]
-fn copies_equal_what_they_copy(rt: HostRuntime) -> Result<(), Fail> {
+fn copies_of_literals(rt: HostRuntime) -> Result<(), Fail> {
     let alloc = rt.alloc();
+    let said = Said::Outputs(outputs(alloc)?);
+    assert_eq!(rt; said.copy(alloc)?, said);
+    for simple in SIMPLES {
+        let literal = scalar(alloc, simple)?;
+        assert_eq!(rt; literal.copy(alloc)?, literal);
+        assert_ne!(rt; literal, Literal::Integer(5));
+    }
+    Ok(())
+}
+
+#[test]
+fn copies_of_types(rt: HostRuntime) -> Result<(), Fail> {
+    let alloc = rt.alloc();
+    let values = map_type(alloc, text_or_none(alloc)?)?;
     let variable = Variable {
         name: text(alloc, "x")?,
-        kind: collection_type(alloc, map_type(alloc, text_or_none(alloc)?)?)?,
+        kind: collection_type(alloc, values)?,
     };
     assert_eq!(rt; variable.copy(alloc)?, variable);
-    let value = union(
-        alloc,
-        Literal::Generic(object(alloc)?),
-        LiteralType::Enum(texts(alloc, "a", "b")?),
-    )?;
-    let both = map(
-        alloc,
-        value,
-        collection(alloc, Literal::None, Literal::Integer(1))?,
-    )?;
-    let outputs = LiteralMap {
-        entries: List::from_vec(vec![in alloc; (text(alloc, "y")?, both)]?),
-    };
-    let said = Said::Outputs(outputs);
-    assert_eq!(rt; said.copy(alloc)?, said);
-    for (_, literal) in &scalars(alloc)? {
-        assert_eq!(rt; literal.copy(alloc)?, *literal);
-        assert_ne!(rt; *literal, Literal::Integer(5));
-    }
+    let variables = List::from_vec(vec![in alloc; variable]?);
+    assert_eq!(rt; variables.copy(alloc)?, variables);
     Ok(())
 }
