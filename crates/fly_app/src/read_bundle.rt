@@ -16,6 +16,7 @@ use fly_types::{NoMemory, Text};
 use serde_json::Value;
 use std::alloc::Global;
 
+/// The bundle that the bytes are the document of.
 pub fn read_bundle(alloc: Global, bytes: &[u8]) -> Result<Bundle, DocFault>
     ensures read { IfOk result (Reads bytes.now) }
     ensures only { (b : Bundle) → Reads bytes.now b → IfOk result (λ r. r ≡ b) }
