@@ -1,3 +1,4 @@
 pub mod WalkLemmas
 pub mod Members
 pub mod OrderLemmas
+pub mod AdjacencyLemmas
