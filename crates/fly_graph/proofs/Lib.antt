@@ -2,3 +2,4 @@ pub mod WalkLemmas
 pub mod Members
 pub mod OrderLemmas
 pub mod AdjacencyLemmas
+pub mod ScheduleLemmas

@@ -2,5 +2,4 @@
 #![tactic(auto)]
 
 mod adjacency;
-
-
+mod schedule;
