@@ -3,3 +3,4 @@ pub mod Members
 pub mod OrderLemmas
 pub mod AdjacencyLemmas
 pub mod ScheduleLemmas
+pub mod Scheduled

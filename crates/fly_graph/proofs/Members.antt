@@ -1,9 +1,9 @@
 -- Lists of numbers as sets: which numbers they have, and how many they can have.
-use Rattle.std.proofs.Common.{◌≡◌, ◌⊎◌, ℕ, zero, suc, subst, ◌+◌, ◌<◌, ◌≤◌, Bool, true, false, List, [], ◌∷◌, ◌++◌, length, get_or, take, eqb, inl, inr, ⊎_elim, refl, sym, arith, ◌∙◌, length-take, get_or-take}
-use Rattle.std.specs.List.{Contains, All, list_any, IsDistinct}
+use Rattle.std.proofs.Common.{◌≡◌, ◌⊎◌, ℕ, zero, suc, subst, ◌+◌, ◌<◌, ◌≤◌, Bool, true, false, cond, List, [], ◌∷◌, ◌++◌, length, get_or, take, eqb, inl, inr, ⊎_elim, refl, sym, arith, ◌∙◌, length-take, get_or-take}
+use Rattle.std.specs.List.{Contains, All, list_any, filter, IsDistinct}
 use Rattle.std.specs.Cmp.{nat_eq_equiv}
 use Rattle.std.proofs.lemmas.List.{get_or_default, get_or-append_right, get_or_append_left, length-append}
-use Rattle.std.proofs.lemmas.List.Elements.{Contains-append_left, Contains-push, Contains-push_cases, Contains-get_or, recursion_from_All}
+use Rattle.std.proofs.lemmas.List.Elements.{Contains-append_left, Contains-push, Contains-push_cases, Contains-get_or, Contains-append_right, recursion_from_All}
 use Rattle.std.proofs.lemmas.Bool.{eqb-true, ne_eqb, cases_Bool, cases_eq, false≢true, false_from_ne_true}
 use Rattle.std.proofs.lemmas.Map.Views.{list_any-from_Contains, Contains-from_any}
 use Rattle.std.proofs.lemmas.Map.Steps.{length-le_from_distinct_below, le-length_from_below}
@@ -95,3 +95,31 @@ missing_one xs n short =
 pub IsDistinct_nil : IsDistinct eqb []
 unfolding IsDistinct
 IsDistinct_nil = tt
+
+Contains-filter_cons : {X : Type 0} (b : Bool) (y : X) (xs rest : List X) (x : X) → (Contains rest x → Contains xs x) → Contains (cond b (y ∷ rest) rest) x → ((b ≡ true) × (y ≡ x)) ⊎ Contains rest x
+Contains-filter_cons true y xs rest x h has = ⊎_elim (λ e. inl (refl, e)) inr (Contains-cons_cases y rest x has)
+Contains-filter_cons false y xs rest x h has = inr has
+
+-- what a filter keeps is there, and passes
+pub Contains-filter : {X : Type 0} (p : X → Bool) (xs : List X) (x : X) → Contains (filter p xs) x → Contains xs x × (p x ≡ true)
+Contains-filter p [] x has = absurd (Contains-nil x has)
+Contains-filter p (y ∷ xs) x has =
+    ⊎_elim (λ e. ((0, omega arith, e.1), subst (λ z. p z ≡ true) e.1 e.0))
+        (λ other. let more = Contains-filter p xs x other in (Contains-append_right (y ∷ []) xs x more.0, more.1))
+        (Contains-filter_cons (p y) y xs (filter p xs) x (λ h. (Contains-filter p xs x h).0) has)
+
+kept_cons : {X : Type 0} (b : Bool) (y : X) (rest : List X) (x : X) → Contains rest x → Contains (cond b (y ∷ rest) rest) x
+kept_cons true y rest x has = Contains-append_right (y ∷ []) rest x has
+kept_cons false y rest x has = has
+
+kept_first : {X : Type 0} (b : Bool) (y : X) (rest : List X) → b ≡ true → Contains (cond b (y ∷ rest) rest) y
+kept_first true y rest e = (0, omega arith, refl)
+kept_first false y rest e = absurd (false≢true e)
+
+-- what is there and passes is kept
+pub Contains-filter_from : {X : Type 0} (p : X → Bool) (xs : List X) (x : X) → Contains xs x → p x ≡ true → Contains (filter p xs) x
+Contains-filter_from p [] x has passes = absurd (Contains-nil x has)
+Contains-filter_from p (y ∷ xs) x has passes =
+    ⊎_elim (λ e. subst (Contains (filter p (y ∷ xs))) e (kept_first (p y) y (filter p xs) (subst (λ z. p z ≡ true) (sym e) passes)))
+        (λ other. kept_cons (p y) y (filter p xs) x (Contains-filter_from p xs x other passes))
+        (Contains-cons_cases y xs x has)

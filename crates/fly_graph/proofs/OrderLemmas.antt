@@ -42,7 +42,7 @@ module _ (graph : Digraph) where
       (cases_eq i (length order))
 
   -- where an edge ends in the list, it begins before that
-  begins_before : (order : List ℕ) → TakesLeastFree graph order → (u v j : ℕ) → j < length order → get_or order j 0 ≡ v → IsEdge graph.edges u v → (i : ℕ) × (i < j) × (i < length order) × (get_or order i 0 ≡ u)
+  pub begins_before : (order : List ℕ) → TakesLeastFree graph order → (u v j : ℕ) → j < length order → get_or order j 0 ≡ v → IsEdge graph.edges u v → (i : ℕ) × (i < j) × (i < length order) × (get_or order i 0 ≡ u)
   begins_before order takes u v j within e edge =
       Contains-take_at order j u ((takes j within).free.ready u (subst (IsEdge graph.edges u) (sym e) edge))
 
