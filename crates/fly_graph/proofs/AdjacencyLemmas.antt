@@ -5,10 +5,10 @@ use Rattle.std.proofs.lemmas.Bool.{eq-eqb, ne_eqb, cases_lt}
 use Rattle.fly_graph.specs.Adjacency.{edges_leaving, StartsAt}
 
 -- at a place the test fails before the first n from i on, and after them, and passes there
-abbrev PassesBetween : {X : Type 0} → (X → Bool) → ℕ → ℕ → ℕ → X → Type 0
+abbrev pub PassesBetween : {X : Type 0} → (X → Bool) → ℕ → ℕ → ℕ → X → Type 0
 PassesBetween p i n k x = (k < i → p x ≡ false) × (i ≤ k → k < i + n → p x ≡ true) × (i + n ≤ k → p x ≡ false)
 
-filter_between : {X : Type 0} (p : X → Bool) (d : X) (xs : List X) (i n : ℕ) → i + n ≤ length xs → ((k : ℕ) → k < length xs → PassesBetween p i n k (get_or xs k d)) → take n (drop i xs) ≡ filter p xs
+pub filter_between : {X : Type 0} (p : X → Bool) (d : X) (xs : List X) (i n : ℕ) → i + n ≤ length xs → ((k : ℕ) → k < length xs → PassesBetween p i n k (get_or xs k d)) → take n (drop i xs) ≡ filter p xs
 filter_between p d [] zero zero fits h = refl
 filter_between p d [] zero (suc n) fits h = refl
 filter_between p d [] (suc i) zero fits h = refl

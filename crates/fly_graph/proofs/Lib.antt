@@ -4,3 +4,4 @@ pub mod OrderLemmas
 pub mod AdjacencyLemmas
 pub mod ScheduleLemmas
 pub mod Scheduled
+pub mod SearchLists

@@ -1,3 +1,4 @@
 pub mod Walks
 pub mod Orders
 pub mod Adjacency
+pub mod Components

@@ -2,4 +2,5 @@
 #![tactic(auto)]
 
 mod adjacency;
+mod components;
 mod schedule;

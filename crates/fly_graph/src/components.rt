@@ -1,0 +1,106 @@
+ghost use Rattle.std.specs.Prelude.{◌≡◌, ℕ, ◌<◌, length, All, IfOk, OnOk, slice_index_or, nat_eq, if◌then◌else◌, replicate, true, false, [], nat_lt, ◌&&◌};
+ghost use Rattle.std.specs.List.{list_any, AllPairs};
+
+use std::alloc::{AllocError, Global};
+
+/// How far the search has come with a number.
+#[derive(Clone, Copy, Debug)]
+pub enum Mark {
+    Unseen,
+    /// On the path, at this place.
+    OnPath(usize),
+    Done,
+}
+
+/// A search for the strongly connected components along a path. The path is cut into segments, each of them strongly
+/// connected by the edges that were followed, and each number on it reaches those after it.
+#[derive(Debug, Drop)]
+pub struct Search {
+    pub marks: Vec<Mark>,
+    /// For each number, how many of the edges that leave it were followed.
+    pub followed: Vec<usize>,
+    pub cyclic: Vec<bool>,
+    pub path: Vec<u32>,
+    /// The places at which the segments begin.
+    pub bounds: Vec<usize>,
+    /// The places whose numbers may have edges left to follow.
+    pub pending: Vec<usize>,
+}
+
+impl Search {
+    ghost use Rattle.std.specs.Prelude.{◌-◌, ◌≤◌, All, slice_index};
+    ghost use Rattle.fly_graph.specs.Components.{state_of, IsSearch, entered, joined, Closes, is_unseen, mark_of, KeepsSeen};
+
+    fn new(alloc: Global, count: u32) -> Result<Search, AllocError>
+        ensures { IfOk result (λ search. state_of search ≡ record {
+            marks = replicate count Mark.Unseen; followed = replicate count 0; cyclic = replicate count false;
+            path = []; bounds = []; pending = [] }) }
+    {
+        let count = count as usize;
+        Ok(Search {
+            marks: vec![in alloc; Mark::Unseen; count]?,
+            followed: vec![in alloc; 0; count]?,
+            cyclic: vec![in alloc; false; count]?,
+            path: Vec::new(alloc),
+            bounds: Vec::new(alloc),
+            pending: Vec::new(alloc),
+        })
+    }
+
+    /// Puts an unseen number at the end of the path, as a segment of its own.
+    fn enter(&mut self, v: u32) -> Result<(), AllocError>
+        requires { v < length self.old.marks.items }
+        ensures { OnOk result (state_of self.new ≡ entered v (state_of self.old)) }
+    {
+        let place = self.path.len();
+        self.path.push(v)?;
+        self.bounds.push(place)?;
+        self.pending.push(place)?;
+        self.marks[v as usize] = Mark::OnPath(place);
+        Ok(())
+    }
+
+    /// Makes one segment of all from that of a place on.
+    fn join(&mut self, place: usize)
+        requires { AllPairs (λ x y. x < y) self.old.bounds.items }
+        ensures { state_of self.new ≡ joined place (state_of self.old) }
+    {
+        let kept = self.bounds.partition_point(|bound| *bound <= place);
+        self.bounds.truncate(kept);
+    }
+
+    /// Takes the last segment, which is a component, off the path.
+    fn close(&mut self, bound: usize)
+        requires numbers { All (λ v. (v < length self.old.marks.items) × (v < length self.old.cyclic.items)) self.old.path.items }
+        requires within { bound ≤ length self.old.path.items }
+        ensures { Closes bound (state_of self.old) (state_of self.new) }
+    {
+        let members = &self.path[bound..];
+        assign(members, self.marks.as_mut_slice(), Mark::Done);
+        note_cycles(members, self.cyclic.as_mut_slice());
+        self.path.truncate(bound);
+        self.bounds.pop();
+    }
+}
+
+/// Notes that the numbers of a component reach themselves, where it has several.
+fn note_cycles(members: &[u32], cyclic: &mut [bool])
+    requires { All (λ member. member < length cyclic.old) members.now }
+    ensures { (v : ℕ) → v < length cyclic.old → slice_index_or cyclic.new v false
+        ≡ (if list_any (nat_eq v) members.now && nat_lt 1 (length members.now) then true else slice_index_or cyclic.old v false) }
+{
+    if members.len() > 1 {
+        assign(members, cyclic, true);
+    }
+}
+
+/// Gives each of the numbers the value.
+fn assign<T: Copy>(numbers: &[u32], values: &mut [T], value: T)
+    requires { All (λ number. number < length values.old) numbers.now }
+    ensures { (v : ℕ) (d : T) → v < length values.old
+        → slice_index_or values.new v d ≡ (if list_any (nat_eq v) numbers.now then value else slice_index_or values.old v d) }
+{
+    for number in numbers {
+        values[*number as usize] = value;
+    }
+}
