@@ -5,3 +5,4 @@ pub mod AdjacencyLemmas
 pub mod ScheduleLemmas
 pub mod Scheduled
 pub mod SearchLists
+pub mod SearchSteps

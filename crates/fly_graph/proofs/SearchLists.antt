@@ -1,11 +1,11 @@
 -- Lists that a search writes.
-use Rattle.std.proofs.Common.{◌≡◌, ◌⊎◌, ℕ, ◌+◌, ◌<◌, ◌≤◌, Bool, true, false, cond, ◌&&◌, List, length, get_or, take, drop, eqb, leb, ⊎_elim, refl, sym, ◌∙◌, ap, subst, arith}
+use Rattle.std.proofs.Common.{◌≡◌, ◌⊎◌, ℕ, ◌+◌, ◌<◌, ◌≤◌, Bool, true, false, cond, ◌&&◌, ◌-◌, List, [], ◌∷◌, ◌++◌, replicate, length, get_or, take, drop, eqb, leb, ⊎_elim, refl, sym, ◌∙◌, ap, subst, arith}
 use Rattle.std.specs.List.{Contains, All, AllPairs, filter, list_any}
 use Rattle.std.specs.List.Sorted.{IsNonDecreasingBy}
 use Rattle.std.proofs.lemmas.Bool.{cases_lt, cases_eq, le-leb, lt-leb}
-use Rattle.std.proofs.lemmas.List.{get_or_past, get_or_default}
-use Rattle.std.proofs.lemmas.List.Elements.{All-contains}
-use Rattle.fly_graph.proofs.Members.{not_any}
+use Rattle.std.proofs.lemmas.List.{get_or_past, get_or_default, get_or-replicate, length-replicate, length_push, length-take, get_or_append_left, get_or_push, get_or-take, take_all, take_more}
+use Rattle.std.proofs.lemmas.List.Elements.{All-contains, Contains-get_or}
+use Rattle.fly_graph.proofs.Members.{not_any, Contains-take_at}
 
 -- a value written where a test passes, and the test fails past the list's end
 pub written_everywhere : {X : Type 0} (old new : List X) (d x : X) (test : ℕ → Bool) → length new ≡ length old
@@ -24,3 +24,58 @@ non_decreasing_from_rising xs rising i j d order within =
     ⊎_elim (λ e. let same : get_or xs i d ≡ get_or xs j d = ap (λ k. get_or xs k d) e in omega arith)
         (λ apart. let up : get_or xs i d < get_or xs j d = rising i j d (omega arith) within in omega arith)
         (cases_eq i j)
+
+pub AllPairs_push : (xs : List ℕ) (y : ℕ) → AllPairs (λ a b. a < b) xs → ((x : ℕ) → Contains xs x → x < y) → AllPairs (λ a b. a < b) (xs ++ y ∷ [])
+AllPairs_push xs y rising low i j d order within =
+    let first : i < length xs = omega (arith, length_push xs y) in
+    let before : get_or (xs ++ y ∷ []) i d ≡ get_or xs i d = get_or_append_left xs (y ∷ []) d i first in
+    ⊎_elim (λ e.
+        let last : get_or (xs ++ y ∷ []) j d ≡ y = get_or_push xs y d j (sym e) in
+        let under : get_or xs i d < y = low _ (Contains-get_or xs i d first) in
+        omega arith)
+    (λ apart.
+        let second : j < length xs = omega (arith, length_push xs y) in
+        let later : get_or (xs ++ y ∷ []) j d ≡ get_or xs j d = get_or_append_left xs (y ∷ []) d j second in
+        let up : get_or xs i d < get_or xs j d = rising i j d order second in
+        omega arith)
+    (cases_eq j (length xs))
+
+pub AllPairs_take : (xs : List ℕ) (n : ℕ) → AllPairs (λ a b. a < b) xs → AllPairs (λ a b. a < b) (take n xs)
+AllPairs_take xs n rising i j d order within =
+    let second : j < n = omega (arith, length-take n xs) in
+    let first : i < n = omega arith in
+    let up : get_or xs i d < get_or xs j d = rising i j d order (omega (arith, length-take n xs)) in
+    omega (arith, get_or-take n xs i d first, get_or-take n xs j d second)
+
+-- a list that isn't empty, without its last element and with it
+pub front_and_last : (xs : List ℕ) (y : ℕ) → 0 < length xs → get_or xs (length xs - 1) 0 ≡ y → xs ≡ take (length xs - 1) xs ++ y ∷ []
+front_and_last xs y some last =
+    let all : take (length xs - 1 + 1) xs ≡ xs = take_all (length xs - 1 + 1) xs (omega arith) in
+    let more : take (length xs - 1 + 1) xs ≡ take (length xs - 1) xs ++ get_or xs (length xs - 1) 0 ∷ [] = take_more xs (length xs - 1) 0 (omega arith) in
+    sym all ∙ more ∙ ap (λ z. take (length xs - 1) xs ++ z ∷ []) last
+
+pub Contains_front : (xs : List ℕ) (n x : ℕ) → Contains (take n xs) x → Contains xs x
+Contains_front xs n x has = let place = Contains-take_at xs n x has in subst (Contains xs) place.3 (Contains-get_or xs place.0 0 place.2)
+
+-- in a rising list no element is above the last
+pub below_last : (xs : List ℕ) → AllPairs (λ a b. a < b) xs → (x : ℕ) → Contains xs x → x ≤ get_or xs (length xs - 1) 0
+below_last xs rising x has =
+    let value : get_or xs has.0 0 ≡ x = get_or_default xs has.0 0 x has.1 ∙ has.2 in
+    ⊎_elim (λ e. let same : get_or xs has.0 0 ≡ get_or xs (length xs - 1) 0 = ap (λ k. get_or xs k 0) e in omega arith)
+        (λ apart. let up : get_or xs has.0 0 < get_or xs (length xs - 1) 0 = rising has.0 (length xs - 1) 0 (let low : has.0 < length xs = has.1 in omega arith) (let low : has.0 < length xs = has.1 in omega arith) in omega arith)
+        (cases_eq has.0 (length xs - 1))
+
+-- the elements before the last are below it
+pub front_below_last : (xs : List ℕ) → AllPairs (λ a b. a < b) xs → (x : ℕ) → Contains (take (length xs - 1) xs) x → x < get_or xs (length xs - 1) 0
+front_below_last xs rising x has =
+    let place = Contains-take_at xs (length xs - 1) x has in
+    let before : place.0 < length xs - 1 = place.1 in
+    let up : get_or xs place.0 0 < get_or xs (length xs - 1) 0 = rising place.0 (length xs - 1) 0 before (omega arith) in
+    omega (arith, place.3)
+
+-- a list of one value holds it everywhere, and past its end by default
+pub replicated : {X : Type 0} (n v : ℕ) (d : X) → get_or (replicate n d) v d ≡ d
+replicated n v d =
+    ⊎_elim (λ small. get_or-replicate n v d d small)
+        (λ large. get_or_past (replicate n d) v d (omega (arith, length-replicate n d)))
+        (cases_lt v n)

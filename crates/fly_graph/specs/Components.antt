@@ -67,6 +67,7 @@ pub record IsSearch (count : ℕ) (edges : List (ℕ × ℕ)) (s : State) : Type
   pub pending_rising : AllPairs (λ x y. x < y) s.pending
   pub pending_within : (place : ℕ) → Contains s.pending place → place < length s.path
   -- the edges that were followed, and what is left of the others
+  pub fresh : (v : ℕ) → mark_of s v ≡ Unseen → followed_of s v ≡ 0
   pub followed_few : (v : ℕ) → followed_of s v ≤ degree edges v
   pub settled : (v i k : ℕ) → mark_of s v ≡ OnPath i → k < followed_of s v → IsSettled s (target edges v k) i
   pub loops : (v k : ℕ) → k < followed_of s v → target edges v k ≡ v → is_cyclic s v ≡ true
