@@ -174,10 +174,138 @@ module _ (count : ℕ) (edges : List (ℕ × ℕ)) where
         complete = λ q e. old.complete q (was_done q e);
       }
 
-    -- u is known to reach itself
+    -- u is noted to reach itself
     module _ (u : ℕ) (cycle : Reaches edges u u) where
-      flagged : State
-      flagged = record s { cyclic = set s.cyclic u true }
+      flagged : (q : ℕ) → is_cyclic s q ≡ true → get_or (set s.cyclic u true) q false ≡ true
+      flagged q e =
+          ⊎_elim (λ same. ⊎_elim
+              (λ small. ap (λ k. get_or (set s.cyclic u true) k false) same ∙ get_or-set_same s.cyclic u true false small)
+              (λ large. absurd (false≢true (sym (get_or_past s.cyclic q false (omega arith)) ∙ e)))
+              (cases_lt u (length s.cyclic)))
+          (λ apart. get_or-set_other s.cyclic u q true false apart ∙ e)
+          (cases_eq q u)
+
+      pub search_note : IsSearch count edges (record s { cyclic = set s.cyclic u true })
+      search_note = record {
+        marks_len = old.marks_len;
+        followed_len = old.followed_len;
+        cyclic_len = length-set s.cyclic u true ∙ old.cyclic_len;
+        place = old.place;
+        marked = old.marked;
+        forward = old.forward;
+        back = old.back;
+        rising = old.rising;
+        bounds_within = old.bounds_within;
+        first = old.first;
+        pending_rising = old.pending_rising;
+        pending_within = old.pending_within;
+        fresh = old.fresh;
+        followed_few = old.followed_few;
+        settled = old.settled;
+        loops = λ q k less e. flagged q (old.loops q k less e);
+        exhausted = old.exhausted;
+        closed = old.closed;
+        sound = λ q e. ⊎_elim (λ same. subst (λ a. Reaches edges a a) (sym same) cycle)
+            (λ apart. old.sound q (sym (get_or-set_other s.cyclic u q true false apart) ∙ e)) (cases_eq q u);
+        complete = λ q e cycle. flagged q (old.complete q e cycle);
+      }
+
+    -- one more edge that leaves u was followed
+    module _ (u pu : ℕ) (on : mark_of s u ≡ OnPath pu) (k : ℕ) (next : followed_of s u ≡ k) (more : k < degree edges u)
+        (settles : IsSettled s (target edges u k) pu) (loop : target edges u k ≡ u → is_cyclic s u ≡ true) where
+      followed_here : get_or (set s.followed u (k + 1)) u 0 ≡ k + 1
+      followed_here = get_or-set_same s.followed u (k + 1) 0 (let small : u < count = on_path_below u pu on in omega (arith, old.followed_len))
+
+      followed_elsewhere : (q : ℕ) → (q ≡ u → ⊥) → get_or (set s.followed u (k + 1)) q 0 ≡ followed_of s q
+      followed_elsewhere q apart = get_or-set_other s.followed u q (k + 1) 0 apart
+
+      -- an edge that was followed is the new one, or was followed before
+      was_followed : (q j : ℕ) → j < get_or (set s.followed u (k + 1)) q 0 → ((q ≡ u) × (j ≡ k)) ⊎ (j < followed_of s q)
+      was_followed q j less =
+          ⊎_elim (λ same.
+              let now : get_or (set s.followed u (k + 1)) q 0 ≡ k + 1 = ap (λ a. get_or (set s.followed u (k + 1)) a 0) same ∙ followed_here in
+              let was : followed_of s q ≡ k = ap (followed_of s) same ∙ next in
+              ⊎_elim (λ e. inl (same, e)) (λ other. inr (omega arith)) (cases_eq j k))
+          (λ apart. let now = followed_elsewhere q apart in inr (omega (arith, now)))
+          (cases_eq q u)
+
+      pub search_follow : IsSearch count edges (record s { followed = set s.followed u (k + 1) })
+      search_follow = record {
+        marks_len = old.marks_len;
+        followed_len = length-set s.followed u (k + 1) ∙ old.followed_len;
+        cyclic_len = old.cyclic_len;
+        place = old.place;
+        marked = old.marked;
+        forward = old.forward;
+        back = old.back;
+        rising = old.rising;
+        bounds_within = old.bounds_within;
+        first = old.first;
+        pending_rising = old.pending_rising;
+        pending_within = old.pending_within;
+        fresh = λ q e. followed_elsewhere q (λ same. unseen_off _ pu e (ap (mark_of s) same ∙ on)) ∙ old.fresh q e;
+        followed_few = λ q. ⊎_elim
+            (λ same.
+                let now : get_or (set s.followed u (k + 1)) q 0 ≡ k + 1 = ap (λ a. get_or (set s.followed u (k + 1)) a 0) same ∙ followed_here in
+                let all : degree edges q ≡ degree edges u = ap (degree edges) same in
+                omega arith)
+            (λ apart. omega (arith, followed_elsewhere q apart, old.followed_few q))
+            (cases_eq q u);
+        settled = λ q i j e less. ⊎_elim
+            (λ both.
+                let place : pu ≡ i = same_place pu i (sym on ∙ ap (mark_of s) (sym both.0) ∙ e) in
+                let here : target edges u k ≡ target edges q j = ap (λ a. target edges a k) (sym both.0) ∙ ap (target edges q) (sym both.1) in
+                subst (IsSettled s (target edges q j)) place (subst (λ w. IsSettled s w pu) here settles))
+            (λ before. old.settled q i j e before)
+            (was_followed q j less);
+        loops = λ q j less e. ⊎_elim
+            (λ both. ap (is_cyclic s) both.0 ∙ loop (ap (λ a. target edges a k) (sym both.0) ∙ ap (target edges q) (sym both.1) ∙ e ∙ both.0))
+            (λ before. old.loops q j before e)
+            (was_followed q j less);
+        exhausted = λ q i e. ⊎_elim
+            (λ has. inl has)
+            (λ all. ⊎_elim
+                (λ same. let few : degree edges u ≤ followed_of s u = subst (λ a. degree edges a ≤ followed_of s a) same all in absurd (omega arith))
+                (λ apart. inr (omega (arith, followed_elsewhere q apart)))
+                (cases_eq q u))
+            (old.exhausted q i e);
+        closed = old.closed;
+        sound = old.sound;
+        complete = old.complete;
+      }
+
+    -- no edge that leaves u is left
+    module _ (u pu : ℕ) (on : mark_of s u ≡ OnPath pu) (all : degree edges u ≤ followed_of s u) (some : 0 < length s.pending) (top : get_or s.pending (length s.pending - 1) 0 ≡ pu) where
+      pub search_retire : IsSearch count edges (record s { pending = take (length s.pending - 1) s.pending })
+      search_retire = record {
+        marks_len = old.marks_len;
+        followed_len = old.followed_len;
+        cyclic_len = old.cyclic_len;
+        place = old.place;
+        marked = old.marked;
+        forward = old.forward;
+        back = old.back;
+        rising = old.rising;
+        bounds_within = old.bounds_within;
+        first = old.first;
+        pending_rising = AllPairs_take s.pending (length s.pending - 1) old.pending_rising;
+        pending_within = λ place has. old.pending_within place (Contains_front s.pending (length s.pending - 1) place has);
+        fresh = old.fresh;
+        followed_few = old.followed_few;
+        settled = old.settled;
+        loops = old.loops;
+        exhausted = λ q i e. ⊎_elim
+            (λ has. ⊎_elim (λ front. inl front)
+                (λ same.
+                    let number : u ≡ q = sym (old.place u pu on).1 ∙ ap (λ a. get_or s.path a 0) same ∙ (old.place q i e).1 in
+                    inr (subst (λ a. degree edges a ≤ followed_of s a) number all))
+                (Contains-push_cases (take (length s.pending - 1) s.pending) pu i (subst (λ xs. Contains xs i) (front_and_last s.pending pu some top) has)))
+            (λ none. inr none)
+            (old.exhausted q i e);
+        closed = old.closed;
+        sound = old.sound;
+        complete = old.complete;
+      }
 
     -- the segments are joined from that of w on, to which an edge from u of the last segment leads
     module _ (u pu : ℕ) (on : mark_of s u ≡ OnPath pu) (last : (bound : ℕ) → Contains s.bounds bound → bound ≤ pu) (w place : ℕ) (earlier : mark_of s w ≡ OnPath place) (edge : IsEdge edges u w) where
