@@ -6,3 +6,4 @@ pub mod ScheduleLemmas
 pub mod Scheduled
 pub mod SearchLists
 pub mod SearchSteps
+pub mod SearchCloses

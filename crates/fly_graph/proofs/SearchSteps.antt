@@ -16,7 +16,7 @@ use Rattle.fly_graph.proofs.Members.{Contains-filter, Contains-filter_from, Cont
 use Rattle.fly_graph.proofs.SearchLists.{AllPairs_push, AllPairs_take, front_and_last, Contains_front, replicated}
 
 -- places of the path tell marks apart
-same_place : (i j : ℕ) → OnPath i ≡ OnPath j → i ≡ j
+pub same_place : (i j : ℕ) → OnPath i ≡ OnPath j → i ≡ j
 same_place i j e = cc
 
 pub unseen_off : (m : Mark) (i : ℕ) → m ≡ Unseen → m ≡ OnPath i → ⊥
