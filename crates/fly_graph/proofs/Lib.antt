@@ -7,3 +7,4 @@ pub mod Scheduled
 pub mod SearchLists
 pub mod SearchSteps
 pub mod SearchCloses
+pub mod SearchWork

@@ -1,5 +1,5 @@
 -- A search for strongly connected components that goes along a path cut into segments.
-use Rattle.std.specs.Prelude.{◌≡◌, ℕ, ◌+◌, ◌-◌, ◌<◌, ◌≤◌, ◌⊎◌, ◌++◌, Bool, true, false, List, [], ◌∷◌, length, slice_index, slice_index_or, slice_set, take, drop, filter, nat_le, nat_lt, nat_eq, ◌&&◌, Contains, if◌then◌else◌, IsTrue}
+use Rattle.std.specs.Prelude.{◌≡◌, ℕ, ◌+◌, suc, ◌-◌, ◌*◌, count_by, ◌<◌, ◌≤◌, ◌⊎◌, ◌++◌, Bool, true, false, List, [], ◌∷◌, length, slice_index, slice_index_or, slice_set, take, drop, filter, nat_le, nat_lt, nat_eq, ◌&&◌, Contains, if◌then◌else◌, IsTrue}
 use Rattle.std.specs.List.{AllPairs, list_any}
 use Rattle.fly_graph.specs.declared.components.Mark.{Mark}
 use Rattle.fly_graph.specs.declared.components.Mark.TheVariants.{Unseen, OnPath, Done}
@@ -109,3 +109,25 @@ is_unseen Done = false
 -- what was seen stays so
 abbrev pub KeepsSeen : State → State → Type 0
 KeepsSeen old new = (v : ℕ) → is_unseen (mark_of old v) ≡ false → is_unseen (mark_of new v) ≡ false
+
+-- an edge from v to itself is noted
+abbrev pub noted : ℕ → ℕ → State → State
+noted v w s = record s { cyclic = (if nat_eq w v then slice_set s.cyclic v true else s.cyclic) }
+
+-- an edge from v leads to w, of which a mark is known
+abbrev pub met_at : ℕ → ℕ → State → Mark → State
+met_at v w s Unseen = entered w s
+met_at v w s (OnPath place) = joined place (noted v w s)
+met_at v w s Done = s
+
+abbrev pub met : ℕ → ℕ → State → State
+met v w s = met_at v w s (mark_of s w)
+
+-- how many edges are left to follow, where the list begins at v
+abbrev pub edges_left : List (ℕ × ℕ) → ℕ → List ℕ → ℕ
+edges_left edges v [] = 0
+edges_left edges v (followed ∷ more) = (degree edges v - followed) + edges_left edges (suc v) more
+
+-- what falls with each step
+abbrev pub work_left : List (ℕ × ℕ) → State → ℕ
+work_left edges s = 3 * count_by is_unseen s.marks + edges_left edges 0 s.followed + length s.pending + length s.path
