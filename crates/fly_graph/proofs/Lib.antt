@@ -8,3 +8,4 @@ pub mod SearchLists
 pub mod SearchSteps
 pub mod SearchCloses
 pub mod SearchWork
+pub mod SearchAdvance

@@ -77,10 +77,10 @@ module _ (count : ℕ) (edges : List (ℕ × ℕ)) where
         ⊎_elim (λ small. omega (arith, old.marks_len)) (λ large. absurd (unseen_off _ i (get_or_past s.marks v Unseen large) e)) (cases_lt v (length s.marks))
 
     module _ (v : ℕ) (small : v < count) (new : mark_of s v ≡ Unseen) (reach : (i : ℕ) → i < length s.path → Reaches edges (get_or s.path i 0) v) where
-      here : mark_of (entered v s) v ≡ OnPath (length s.path)
+      pub here : mark_of (entered v s) v ≡ OnPath (length s.path)
       here = get_or-set_same s.marks v (OnPath (length s.path)) Unseen (omega (arith, old.marks_len))
 
-      elsewhere : (q : ℕ) → (q ≡ v → ⊥) → mark_of (entered v s) q ≡ mark_of s q
+      pub elsewhere : (q : ℕ) → (q ≡ v → ⊥) → mark_of (entered v s) q ≡ mark_of s q
       elsewhere q apart = get_or-set_other s.marks v q (OnPath (length s.path)) Unseen apart
 
       before : (i : ℕ) → i < length s.path → get_or (s.path ++ v ∷ []) i 0 ≡ get_or s.path i 0
@@ -95,7 +95,7 @@ module _ (count : ℕ) (edges : List (ℕ × ℕ)) where
       seen_apart : (q : ℕ) → (mark_of s q ≡ Unseen → ⊥) → q ≡ v → ⊥
       seen_apart q seen e = seen (ap (mark_of s) e ∙ new)
 
-      still_on : (q i : ℕ) → mark_of s q ≡ OnPath i → mark_of (entered v s) q ≡ OnPath i
+      pub still_on : (q i : ℕ) → mark_of s q ≡ OnPath i → mark_of (entered v s) q ≡ OnPath i
       still_on q i e = elsewhere q (seen_apart q (λ u. unseen_off _ i u e)) ∙ e
 
       still_done : (q : ℕ) → mark_of s q ≡ Done → mark_of (entered v s) q ≡ Done
@@ -307,29 +307,31 @@ module _ (count : ℕ) (edges : List (ℕ × ℕ)) where
         complete = old.complete;
       }
 
-    -- the segments are joined from that of w on, to which an edge from u of the last segment leads
-    module _ (u pu : ℕ) (on : mark_of s u ≡ OnPath pu) (last : (bound : ℕ) → Contains s.bounds bound → bound ≤ pu) (w place : ℕ) (earlier : mark_of s w ≡ OnPath place) (edge : IsEdge edges u w) where
-      kept_of : (bound : ℕ) → Contains (joined place s).bounds bound → Contains s.bounds bound × (bound ≤ place)
+    -- an edge leads from u, a number of the last segment, to w
+    module _ (u pu : ℕ) (on : mark_of s u ≡ OnPath pu) (last : (bound : ℕ) → Contains s.bounds bound → bound ≤ pu) (w : ℕ) (edge : IsEdge edges u w) where
+     u_at : get_or s.path pu 0 ≡ u
+     u_at = (old.place u pu on).1
+
+     -- each number on the path reaches w
+     pub to_w : (j : ℕ) → j < length s.path → Reaches edges (get_or s.path j 0) w
+     to_w j within =
+         let step : Reaches edges u w = reaches_by_edge edges u w edge in
+         ⊎_elim (λ e. subst (λ a. Reaches edges a w) (sym (ap (λ k. get_or s.path k 0) e ∙ u_at)) step)
+             (⊎_elim
+                 (λ before. reaches_trans edges _ u w (subst (Reaches edges (get_or s.path j 0)) u_at (old.forward j pu before (old.place u pu on).0)) step)
+                 (λ after. reaches_trans edges _ u w (subst (Reaches edges (get_or s.path j 0)) u_at (old.back pu j after within (λ bound has above. let low : bound ≤ pu = last bound has in absurd (omega arith)))) step))
+             (cases_order j pu)
+
+     -- the segments are joined from that of w on
+     module _ (place : ℕ) (earlier : mark_of s w ≡ OnPath place) where
+      pub kept_of : (bound : ℕ) → Contains (joined place s).bounds bound → Contains s.bounds bound × (bound ≤ place)
       kept_of bound has = let kept = Contains-filter (λ b. leb b place) s.bounds bound has in (kept.0, leb-true bound place kept.1)
 
       kept_from : (bound : ℕ) → Contains s.bounds bound → bound ≤ place → Contains (joined place s).bounds bound
       kept_from bound has low = Contains-filter_from (λ b. leb b place) s.bounds bound has (le-leb bound place low)
 
-      u_at : get_or s.path pu 0 ≡ u
-      u_at = (old.place u pu on).1
-
       w_at : get_or s.path place 0 ≡ w
       w_at = (old.place w place earlier).1
-
-      -- from a place to w
-      to_w : (j : ℕ) → j < length s.path → Reaches edges (get_or s.path j 0) w
-      to_w j within =
-          let step : Reaches edges u w = reaches_by_edge edges u w edge in
-          ⊎_elim (λ e. subst (λ a. Reaches edges a w) (sym (ap (λ k. get_or s.path k 0) e ∙ u_at)) step)
-              (⊎_elim
-                  (λ before. reaches_trans edges _ u w (subst (Reaches edges (get_or s.path j 0)) u_at (old.forward j pu before (old.place u pu on).0)) step)
-                  (λ after. reaches_trans edges _ u w (subst (Reaches edges (get_or s.path j 0)) u_at (old.back pu j after within (λ bound has above. let low : bound ≤ pu = last bound has in absurd (omega arith)))) step))
-              (cases_order j pu)
 
       back_joined : (i j : ℕ) → i < j → j < length s.path → AreTogether (joined place s).bounds i j → Reaches edges (get_or s.path j 0) (get_or s.path i 0)
       back_joined i j order within together =

@@ -29,7 +29,7 @@ pub struct Search {
 
 impl Search {
     ghost use Rattle.std.specs.Prelude.{◌-◌, ◌≤◌, All, slice_index};
-    ghost use Rattle.fly_graph.specs.Components.{state_of, IsSearch, entered, joined, Closes, is_unseen, mark_of, KeepsSeen};
+    ghost use Rattle.fly_graph.specs.Components.{state_of, IsSearch, entered, noted, met, joined, Closes};
 
     fn new(alloc: Global, count: u32) -> Result<Search, AllocError>
         ensures { IfOk result (λ search. state_of search ≡ record {
@@ -58,6 +58,34 @@ impl Search {
         self.pending.push(place)?;
         self.marks[v as usize] = Mark::OnPath(place);
         Ok(())
+    }
+
+    /// Follows an edge from `v`, a number of the last segment, to another number.
+    fn meet(&mut self, v: u32, target: u32) -> Result<(), AllocError>
+        requires v { v < length self.old.cyclic.items }
+        requires target { target < length self.old.marks.items }
+        requires rising { AllPairs (λ x y. x < y) self.old.bounds.items }
+        ensures { OnOk result (state_of self.new ≡ met v target (state_of self.old)) }
+    {
+        match self.marks[target as usize] {
+            Mark::Unseen => self.enter(target),
+            Mark::OnPath(place) => {
+                self.note(v, target);
+                self.join(place);
+                Ok(())
+            }
+            Mark::Done => Ok(()),
+        }
+    }
+
+    /// Notes an edge from a number to itself.
+    fn note(&mut self, v: u32, target: u32)
+        requires { v < length self.old.cyclic.items }
+        ensures { state_of self.new ≡ noted v target (state_of self.old) }
+    {
+        if target == v {
+            self.cyclic[v as usize] = true;
+        }
     }
 
     /// Makes one segment of all from that of a place on.
