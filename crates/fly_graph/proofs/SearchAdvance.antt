@@ -2,11 +2,13 @@
 use Rattle.std.proofs.Common.{◌≡◌, ◌⊎◌, ℕ, zero, suc, ◌+◌, ◌-◌, ◌*◌, ◌<◌, ◌≤◌, Bool, true, false, cond, List, [], ◌∷◌, ◌++◌, length, get_or, set, take, drop, count_by, eqb, inl, inr, ⊎_elim, refl, sym, ◌∙◌, ap, subst, arith}
 use Rattle.std.specs.List.{Contains}
 use Rattle.std.proofs.lemmas.Bool.{cases_eq, cases_lt, eq-eqb, ne_eqb}
-use Rattle.std.proofs.lemmas.List.{length_push, get_or-set_same}
-use Rattle.std.proofs.lemmas.List.Elements.{Contains-push_cases}
+use Rattle.std.proofs.lemmas.List.{length_push, get_or-set_same, get_or_read}
+use Rattle.std.proofs.lemmas.List.Elements.{Contains-push_cases, Contains-get_or, All-contains}
 use Rattle.fly_graph.specs.declared.components.Mark.{Mark}
 use Rattle.fly_graph.specs.declared.components.Mark.TheVariants.{Unseen, OnPath, Done}
 use Rattle.fly_graph.specs.Walks.{IsEdge, Reaches}
+use Rattle.fly_graph.specs.Orders.{EndsBelow}
+use Rattle.fly_graph.specs.Adjacency.{edges_leaving}
 use Rattle.fly_graph.specs.Components.{State, mark_of, followed_of, is_cyclic, degree, target, IsSettled, IsSearch, entered, noted, met, met_at, joined, edges_left, work_left, is_unseen, KeepsSeen}
 use Rattle.fly_graph.proofs.WalkLemmas.{reaches_by_edge}
 use Rattle.fly_graph.proofs.SearchSteps.{same_place, unseen_off, done_off, edge_at, on_path_below, here, elsewhere, still_on, search_enter, search_note, search_follow, to_w, kept_of, search_join}
@@ -100,6 +102,9 @@ module _ (count : ℕ) (edges : List (ℕ × ℕ)) (s : State) (old : IsSearch c
   pub advance_search : IsSearch count edges followed_on
   advance_search = search_follow count edges (met u (target edges u k) s) now.search u pu now.on k same_next more now.settles now.loop
 
+  pub advance_len : length (met u (target edges u k) s).followed ≡ count
+  advance_len = ap length now.followed ∙ old.followed_len
+
   pub advance_seen : KeepsSeen s followed_on
   advance_seen = now.seen
 
@@ -108,3 +113,32 @@ module _ (count : ℕ) (edges : List (ℕ × ℕ)) (s : State) (old : IsSearch c
       let low : u < count = on_path_below count edges s old u pu on in
       let less = left_less edges 0 (met u (target edges u k) s).followed u k (omega (arith, now.search.followed_len)) same_next (let same : degree edges (0 + u) ≡ degree edges u = ap (degree edges) (let e : 0 + u ≡ u = omega arith in e) in omega arith) in
       omega (arith, less, now.work)
+
+-- the number at the last pending place
+module _ (count : ℕ) (edges : List (ℕ × ℕ)) (s : State) (old : IsSearch count edges s) (some : 0 < length s.pending) (place : ℕ) (top : get_or s.pending (length s.pending - 1) 0 ≡ place) where
+  pub top_within : place < length s.path
+  top_within = old.pending_within place (subst (Contains s.pending) top (Contains-get_or s.pending (length s.pending - 1) 0 (omega arith)))
+
+  pub top_marked : (v : ℕ) → v ≡ get_or s.path place v → mark_of s v ≡ OnPath place
+  top_marked v read = ap (mark_of s) (get_or_read s.path place v top_within read 0) ∙ old.marked place top_within
+
+  pub top_below : (v : ℕ) → v ≡ get_or s.path place v → v < count
+  top_below v read = on_path_below count edges s old v place (top_marked v read)
+
+-- where an edge of the graph leads
+pub target_below : (count : ℕ) (edges : List (ℕ × ℕ)) → EndsBelow count edges → (v k : ℕ) → k < degree edges v → target edges v k < count
+target_below count edges ends v k within = (All-contains (λ (e : ℕ × ℕ). (e.0 < count) × (e.1 < count)) edges (v, target edges v k) ends (edge_at edges v k within)).1
+
+-- the counts and the edges that a step reads
+module _ (count : ℕ) (edges : List (ℕ × ℕ)) (s : State) (old : IsSearch count edges s) (v : ℕ) (small : v < count) (n : ℕ) (read : n ≡ get_or s.followed v n) (leaving : List (ℕ × ℕ)) (are : leaving ≡ edges_leaving edges v) where
+  pub followed_is : followed_of s v ≡ n
+  followed_is = sym (get_or_read s.followed v n (omega (arith, old.followed_len)) read 0)
+
+  pub followed_within : (n ≡ length leaving → ⊥) → n < length leaving
+  followed_within some = let few : followed_of s v ≤ degree edges v = old.followed_few v in let len : length leaving ≡ degree edges v = ap length are in omega (arith, followed_is)
+
+  pub more_left : (n ≡ length leaving → ⊥) → n < degree edges v
+  more_left some = let within = followed_within some in let len : length leaving ≡ degree edges v = ap length are in omega (arith, within)
+
+  pub none_left : n ≡ length leaving → degree edges v ≤ followed_of s v
+  none_left all = let len : length leaving ≡ degree edges v = ap length are in omega (arith, followed_is)

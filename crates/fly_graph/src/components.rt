@@ -1,6 +1,7 @@
 ghost use Rattle.std.specs.Prelude.{◌≡◌, ℕ, ◌<◌, length, All, IfOk, OnOk, slice_index_or, nat_eq, if◌then◌else◌, replicate, true, false, [], nat_lt, ◌&&◌};
 ghost use Rattle.std.specs.List.{list_any, AllPairs};
 
+use crate::adjacency::Adjacency;
 use std::alloc::{AllocError, Global};
 
 /// How far the search has come with a number.
@@ -28,8 +29,8 @@ pub struct Search {
 }
 
 impl Search {
-    ghost use Rattle.std.specs.Prelude.{◌-◌, ◌≤◌, All, slice_index};
-    ghost use Rattle.fly_graph.specs.Components.{state_of, IsSearch, entered, noted, met, joined, Closes};
+    ghost use Rattle.std.specs.Prelude.{◌-◌, ◌≤◌, All, Contains, slice_index};
+    ghost use Rattle.fly_graph.specs.Components.{state_of, IsSearch, entered, noted, met, joined, Closes, KeepsSeen, work_left};
 
     fn new(alloc: Global, count: u32) -> Result<Search, AllocError>
         ensures { IfOk result (λ search. state_of search ≡ record {
@@ -57,6 +58,29 @@ impl Search {
         self.bounds.push(place)?;
         self.pending.push(place)?;
         self.marks[v as usize] = Mark::OnPath(place);
+        Ok(())
+    }
+
+    /// Follows the next edge from the number at a place of the last segment, the last that is pending.
+    fn advance(&mut self, adjacency: &Adjacency, place: usize) -> Result<(), AllocError>
+        requires search { IsSearch adjacency.now.count adjacency.now.edges.items (state_of self.old) }
+        requires pending { 0 < length self.old.pending.items }
+        requires place { slice_index self.old.pending.items (length self.old.pending.items - 1) ≡ place }
+        requires last { (bound : ℕ) → Contains self.old.bounds.items bound → bound ≤ place }
+        ensures search { OnOk result (IsSearch adjacency.now.count adjacency.now.edges.items (state_of self.new)) }
+        ensures seen { OnOk result (KeepsSeen (state_of self.old) (state_of self.new)) }
+        ensures less { OnOk result
+            (work_left adjacency.now.edges.items (state_of self.new) < work_left adjacency.now.edges.items (state_of self.old)) }
+    {
+        let v = self.path[place];
+        let followed = self.followed[v as usize];
+        let leaving = adjacency.leaving(v);
+        if followed == leaving.len() {
+            self.pending.pop();
+            return Ok(());
+        }
+        self.meet(v, leaving[followed].1)?;
+        self.followed[v as usize] = followed + 1;
         Ok(())
     }
 
