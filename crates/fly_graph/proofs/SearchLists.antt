@@ -1,6 +1,8 @@
 -- Lists that a search writes.
 use Rattle.std.proofs.Common.{◌≡◌, ◌⊎◌, ℕ, ◌+◌, ◌<◌, ◌≤◌, Bool, true, false, cond, ◌&&◌, ◌-◌, List, [], ◌∷◌, ◌++◌, replicate, length, get_or, take, drop, eqb, leb, ⊎_elim, refl, sym, ◌∙◌, ap, subst, arith}
-use Rattle.std.specs.List.{Contains, All, AllPairs, filter, list_any}
+use Rattle.std.specs.List.{Contains, All, AllPairs, filter, list_any, slice_get}
+use Rattle.std.specs.Prelude.{Option, Some, None}
+use Rattle.std.proofs.lemmas.Option.{slice_get_within, get_or_from_slice_get, slice_get-get_or}
 use Rattle.std.specs.List.Sorted.{IsNonDecreasingBy}
 use Rattle.std.proofs.lemmas.Bool.{cases_lt, cases_eq, le-leb, lt-leb}
 use Rattle.std.proofs.lemmas.List.{get_or_past, get_or_default, get_or-replicate, length-replicate, length_push, length-take, get_or_append_left, get_or_push, get_or-take, take_all, take_more}
@@ -79,3 +81,26 @@ replicated n v d =
     ⊎_elim (λ small. get_or-replicate n v d d small)
         (λ large. get_or_past (replicate n d) v d (omega (arith, length-replicate n d)))
         (cases_lt v n)
+
+-- what `last` reads
+pub last_known : (xs ys : List ℕ) (x : ℕ) → ys ≡ xs → slice_get ys (length ys - 1) ≡ Some x → (0 < length xs) × (get_or xs (length xs - 1) 0 ≡ x)
+last_known xs ys x same read =
+    let P : List ℕ → Type 0 = λ zs. slice_get zs (length zs - 1) ≡ Some x in
+    let found : slice_get xs (length xs - 1) ≡ Some x = subst P same read in
+    let within : length xs - 1 < length xs = slice_get_within xs (length xs - 1) x found in
+    (omega arith, get_or_from_slice_get xs (length xs - 1) x 0 found)
+
+pub all_below_last : (xs ys : List ℕ) (x bound : ℕ) → ys ≡ xs → AllPairs (λ a b. a < b) xs → slice_get ys (length ys - 1) ≡ Some x → x < bound → (place : ℕ) → Contains xs place → place < bound
+all_below_last xs ys x bound same rising read low place has =
+    let last = last_known xs ys x same read in
+    omega (arith, below_last xs rising place has, last.1)
+
+pub none_without_last : (xs ys : List ℕ) (bound : ℕ) → ys ≡ xs → slice_get ys (length ys - 1) ≡ None → (place : ℕ) → Contains xs place → place < bound
+none_without_last xs ys bound same read place has =
+    let P : List ℕ → Type 0 = λ zs. slice_get zs (length zs - 1) ≡ None in
+    let none : slice_get xs (length xs - 1) ≡ None = subst P same read in
+    let some : slice_get xs (length xs - 1) ≡ Some (get_or xs (length xs - 1) 0) = slice_get-get_or xs (length xs - 1) 0 (let low : has.0 < length xs = has.1 in omega arith) in
+    absurd (some_not_none _ _ some none)
+  where
+    some_not_none : (o : Option ℕ) (x : ℕ) → o ≡ Some x → o ≡ None → ⊥
+    some_not_none o x e f = cc

@@ -61,6 +61,22 @@ impl Search {
         Ok(())
     }
 
+    /// Goes on until the path is empty.
+    fn run(&mut self, adjacency: &Adjacency) -> Result<(), AllocError>
+        requires { IsSearch adjacency.now.count adjacency.now.edges.items (state_of self.old) }
+        ensures search { OnOk result (IsSearch adjacency.now.count adjacency.now.edges.items (state_of self.new)) }
+        ensures empty { OnOk result (self.new.path.items ≡ []) }
+        ensures seen { OnOk result (KeepsSeen (state_of self.old) (state_of self.new)) }
+    {
+        while let Some(bound) = self.bounds.last().copied() {
+            match self.pending.last().copied() {
+                Some(place) if bound <= place => self.advance(adjacency, place)?,
+                _ => self.close(bound),
+            }
+        }
+        Ok(())
+    }
+
     /// Follows the next edge from the number at a place of the last segment, the last that is pending.
     fn advance(&mut self, adjacency: &Adjacency, place: usize) -> Result<(), AllocError>
         requires search { IsSearch adjacency.now.count adjacency.now.edges.items (state_of self.old) }
