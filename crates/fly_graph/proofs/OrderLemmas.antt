@@ -78,7 +78,7 @@ module _ (graph : Digraph) where
       let before : there.0 < j = there.1 in
       never_back order takes v n there.0 (omega arith) there.2 there.3 walk
 
-  last_below : EndsBelow graph.count graph.edges → (u : ℕ) (between : List ℕ) (v : ℕ) → IsWalk graph.edges u between v → v < graph.count
+  pub last_below : EndsBelow graph.count graph.edges → (u : ℕ) (between : List ℕ) (v : ℕ) → IsWalk graph.edges u between v → v < graph.count
   last_below ends u [] v walk = (All-contains (λ edge. (edge.0 < graph.count) × (edge.1 < graph.count)) graph.edges (u, v) ends walk).1
   last_below ends u (w ∷ between) v walk = last_below ends w between v walk.1
 

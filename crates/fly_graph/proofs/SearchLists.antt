@@ -1,12 +1,12 @@
 -- Lists that a search writes.
-use Rattle.std.proofs.Common.{◌≡◌, ◌⊎◌, ℕ, ◌+◌, ◌<◌, ◌≤◌, Bool, true, false, cond, ◌&&◌, ◌-◌, List, [], ◌∷◌, ◌++◌, replicate, length, get_or, take, drop, eqb, leb, ⊎_elim, refl, sym, ◌∙◌, ap, subst, arith}
+use Rattle.std.proofs.Common.{◌≡◌, ◌⊎◌, ◌↔◌, ℕ, ◌+◌, ◌<◌, ◌≤◌, Bool, true, false, cond, ◌&&◌, ◌-◌, List, [], ◌∷◌, ◌++◌, replicate, length, get_or, take, drop, eqb, leb, ⊎_elim, refl, sym, ◌∙◌, ap, subst, arith}
 use Rattle.std.specs.List.{Contains, All, AllPairs, filter, list_any, slice_get}
 use Rattle.std.specs.Prelude.{Option, Some, None}
 use Rattle.std.proofs.lemmas.Option.{slice_get_within, get_or_from_slice_get, slice_get-get_or}
 use Rattle.std.specs.List.Sorted.{IsNonDecreasingBy}
-use Rattle.std.proofs.lemmas.Bool.{cases_lt, cases_eq, le-leb, lt-leb}
+use Rattle.std.proofs.lemmas.Bool.{cases_lt, cases_eq, false≢true, le-leb, lt-leb}
 use Rattle.std.proofs.lemmas.List.{get_or_past, get_or_default, get_or-replicate, length-replicate, length_push, length-take, get_or_append_left, get_or_push, get_or-take, take_all, take_more}
-use Rattle.std.proofs.lemmas.List.Elements.{All-contains, Contains-get_or}
+use Rattle.std.proofs.lemmas.List.Elements.{All-contains, Contains-get_or, Contains-push, Contains-push_cases, Contains-append_left}
 use Rattle.fly_graph.proofs.Members.{not_any, Contains-take_at}
 
 -- a value written where a test passes, and the test fails past the list's end
@@ -104,3 +104,19 @@ none_without_last xs ys bound same read place has =
   where
     some_not_none : (o : Option ℕ) (x : ℕ) → o ≡ Some x → o ≡ None → ⊥
     some_not_none o x e f = cc
+
+-- the numbers below n at which a flag is set, with n and without it
+pub flagged_more : (numbers : List ℕ) (flags : List Bool) (n : ℕ) → ((v : ℕ) → Contains numbers v ↔ ((v < n) × (get_or flags v false ≡ true))) → get_or flags n false ≡ true
+    → (v : ℕ) → Contains (numbers ++ n ∷ []) v ↔ ((v < n + 1) × (get_or flags v false ≡ true))
+flagged_more numbers flags n kept set v =
+    (λ has. ⊎_elim (λ was. let both = (kept v).0 was in let low : v < n = both.0 in (omega arith, both.1))
+        (λ e. (omega arith, ap (λ k. get_or flags k false) (sym e) ∙ set)) (Contains-push_cases numbers n v has),
+    λ both. ⊎_elim (λ e. subst (Contains (numbers ++ n ∷ [])) (sym e) (Contains-push numbers n))
+        (λ apart. Contains-append_left numbers (n ∷ []) v ((kept v).1 (let low : v < n + 1 = both.0 in omega arith, both.1))) (cases_eq v n))
+
+pub flagged_same : (numbers : List ℕ) (flags : List Bool) (n : ℕ) → ((v : ℕ) → Contains numbers v ↔ ((v < n) × (get_or flags v false ≡ true))) → get_or flags n false ≡ false
+    → (v : ℕ) → Contains numbers v ↔ ((v < n + 1) × (get_or flags v false ≡ true))
+flagged_same numbers flags n kept clear v =
+    (λ has. let both = (kept v).0 has in let low : v < n = both.0 in (omega arith, both.1),
+    λ both. ⊎_elim (λ e. absurd (false≢true (sym clear ∙ ap (λ k. get_or flags k false) (sym e) ∙ both.1)))
+        (λ apart. (kept v).1 (let low : v < n + 1 = both.0 in omega arith, both.1)) (cases_eq v n))

@@ -1,5 +1,7 @@
-ghost use Rattle.std.specs.Prelude.{◌≡◌, ℕ, ◌<◌, length, All, IfOk, OnOk, slice_index_or, nat_eq, if◌then◌else◌, replicate, true, false, [], nat_lt, ◌&&◌};
+ghost use Rattle.std.specs.Prelude.{◌≡◌, ℕ, ◌<◌, length, All, IfOk, OnOk, slice_index_or, nat_eq, if◌then◌else◌, replicate, true, false, [], nat_lt, ◌&&◌, ◌↔◌, IsTrue, Contains};
 ghost use Rattle.std.specs.List.{list_any, AllPairs};
+ghost use Rattle.std.specs.List.Sorted.{IsStrictlyIncreasing};
+ghost use Rattle.fly_graph.specs.Walks.{Reaches};
 
 use crate::adjacency::Adjacency;
 use std::alloc::{AllocError, Global};
@@ -30,7 +32,7 @@ pub struct Search {
 
 impl Search {
     ghost use Rattle.std.specs.Prelude.{◌-◌, ◌≤◌, All, Contains, slice_index};
-    ghost use Rattle.fly_graph.specs.Components.{state_of, IsSearch, entered, noted, met, joined, Closes, KeepsSeen, work_left};
+    ghost use Rattle.fly_graph.specs.Components.{state_of, IsSearch, entered, noted, met, joined, Closes, KeepsSeen, is_unseen, mark_of, work_left};
 
     fn new(alloc: Global, count: u32) -> Result<Search, AllocError>
         ensures { IfOk result (λ search. state_of search ≡ record {
@@ -58,6 +60,23 @@ impl Search {
         self.bounds.push(place)?;
         self.pending.push(place)?;
         self.marks[v as usize] = Mark::OnPath(place);
+        Ok(())
+    }
+
+    /// Sees to it that a number is done.
+    fn visit(&mut self, adjacency: &Adjacency, v: u32) -> Result<(), AllocError>
+        requires v { v < adjacency.now.count }
+        requires search { IsSearch adjacency.now.count adjacency.now.edges.items (state_of self.old) }
+        requires empty { self.old.path.items ≡ [] }
+        ensures search { OnOk result (IsSearch adjacency.now.count adjacency.now.edges.items (state_of self.new)) }
+        ensures empty { OnOk result (self.new.path.items ≡ []) }
+        ensures seen { OnOk result (KeepsSeen (state_of self.old) (state_of self.new)) }
+        ensures visited { OnOk result (is_unseen (mark_of (state_of self.new) v) ≡ false) }
+    {
+        if let Mark::Unseen = self.marks[v as usize] {
+            self.enter(v)?;
+            self.run(adjacency)?;
+        }
         Ok(())
     }
 
@@ -149,6 +168,35 @@ impl Search {
         self.path.truncate(bound);
         self.bounds.pop();
     }
+}
+
+/// For each number whether it reaches itself.
+pub fn cyclic_flags(alloc: Global, adjacency: &Adjacency) -> Result<Vec<bool>, AllocError>
+    ensures len { IfOk result (λ cyclic. length cyclic.items ≡ adjacency.now.count) }
+    ensures cyclic { IfOk result (λ cyclic. (v : ℕ) → v < adjacency.now.count
+        → IsTrue (slice_index_or cyclic.items v false) ↔ Reaches adjacency.now.edges.items v v) }
+{
+    let mut search = Search::new(alloc, adjacency.count)?;
+    for v in 0..adjacency.count {
+        search.visit(adjacency, v)?;
+    }
+    let Search { cyclic, .. } = search;
+    Ok(cyclic)
+}
+
+/// The numbers that reach themselves, rising.
+pub fn cyclic_numbers(alloc: Global, adjacency: &Adjacency) -> Result<Vec<u32>, AllocError>
+    ensures rising { IfOk result (λ numbers. IsStrictlyIncreasing numbers.items) }
+    ensures cyclic { IfOk result (λ numbers. (v : ℕ) → Contains numbers.items v ↔ Reaches adjacency.now.edges.items v v) }
+{
+    let cyclic = cyclic_flags(alloc, adjacency)?;
+    let mut numbers = Vec::new(alloc);
+    for v in 0..adjacency.count {
+        if cyclic[v as usize] {
+            numbers.push(v)?;
+        }
+    }
+    Ok(numbers)
 }
 
 /// Notes that the numbers of a component reach themselves, where it has several.
