@@ -9,3 +9,4 @@ pub mod SearchSteps
 pub mod SearchCloses
 pub mod SearchWork
 pub mod SearchAdvance
+pub mod SortedEdges

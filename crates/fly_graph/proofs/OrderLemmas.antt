@@ -5,7 +5,7 @@ use Rattle.std.proofs.lemmas.Bool.{cases_eq, cases_lt}
 use Rattle.std.proofs.lemmas.List.{get_or_default, take_all, take_more_same, length_push, get_or_push, get_or_append_left, take-append-le, take_at}
 use Rattle.std.proofs.lemmas.List.Elements.{Contains-get_or, All-contains, Contains-append_left, Contains-append_right}
 use Rattle.fly_graph.specs.Walks.{IsEdge, IsWalk, Reaches}
-use Rattle.fly_graph.specs.Orders.{Digraph, EndsBelow, IsFree, IsLeastFree, TakesLeastFree, HasEachOnce, EdgesGoForward, IsAcyclic, IsLeastOrder}
+use Rattle.fly_graph.specs.Orders.{Digraph, EndsBelow, IsFree, IsLeastFree, TakesLeastFree, HasEachOnce, EdgesGoForward, IsAcyclic, IsOrder, IsLeastOrder}
 use Rattle.fly_graph.proofs.WalkLemmas.{reaches_by_edge, reaches_trans}
 use Rattle.fly_graph.proofs.Members.{contains_or_not, Contains-take_at, Contains-take_from, IsDistinct_from_fresh, IsDistinct_before, IsDistinct_nil, Contains-cons_cases, Contains-nil, length_le, all_there, missing_one, below_cons}
 
@@ -201,3 +201,22 @@ module _ (graph : Digraph) (ends : EndsBelow graph.count graph.edges) where
   -- where no number reaches itself there is an order
   pub order_from_acyclic : IsAcyclic graph.edges → (order : List ℕ) × IsLeastOrder graph order
   order_from_acyclic acyclic = order_by graph.count [] (λ i within. absurd (omega arith)) (omega arith) acyclic
+
+module _ (graph : Digraph) (ends : EndsBelow graph.count graph.edges) (order : List ℕ) (is_order : IsOrder graph order) where
+  -- a walk along an order ends later than it begins
+  walks_later : (u : ℕ) (between : List ℕ) (v i j : ℕ) → i < length order → get_or order i 0 ≡ u → j < length order → get_or order j 0 ≡ v → IsWalk graph.edges u between v → i < j
+  walks_later u [] v i j first begins second ends_at walk =
+      is_order.forward i j first second (subst (λ a. IsEdge graph.edges a (get_or order j 0)) (sym begins) (subst (IsEdge graph.edges u) (sym ends_at) walk))
+  walks_later u (w ∷ between) v i j first begins second ends_at walk =
+      let has = (is_order.once.each w).0 (All-contains (λ edge. (edge.0 < graph.count) × (edge.1 < graph.count)) graph.edges (u, w) ends walk.0).1 in
+      let at : get_or order has.0 0 ≡ w = get_or_default order has.0 0 w has.1 ∙ has.2 in
+      let step : i < has.0 = is_order.forward i has.0 first has.1 (subst (λ a. IsEdge graph.edges a (get_or order has.0 0)) (sym begins) (subst (IsEdge graph.edges u) (sym at) walk.0)) in
+      let rest : has.0 < j = walks_later w between v has.0 j has.1 at second ends_at walk.1 in
+      omega arith
+
+  pub acyclic_from_any_order : IsAcyclic graph.edges
+  acyclic_from_any_order v walk =
+      let has = (is_order.once.each v).0 (last_below graph ends v walk.0 v walk.1) in
+      let at : get_or order has.0 0 ≡ v = get_or_default order has.0 0 v has.1 ∙ has.2 in
+      let later : has.0 < has.0 = walks_later v walk.0 v has.0 has.0 has.1 at has.1 at walk.1 in
+      absurd (omega arith)

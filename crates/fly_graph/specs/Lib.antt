@@ -1,4 +1,5 @@
 pub mod Walks
 pub mod Orders
+pub mod Faults
 pub mod Adjacency
 pub mod Components

@@ -41,7 +41,12 @@ EdgesGoForward edges order =
 abbrev pub IsAcyclic : List (ℕ × ℕ) → Type 0
 IsAcyclic edges = (v : ℕ) → ¬ Reaches edges v v
 
--- the one order with the least free number first
+-- an order of the graph
+pub record IsOrder (graph : Digraph) (order : List ℕ) : Type 0 where
+  pub once : HasEachOnce graph.count order
+  pub forward : EdgesGoForward graph.edges order
+
+-- the order that takes the least free number each time
 pub record IsLeastOrder (graph : Digraph) (order : List ℕ) : Type 0 where
   pub once : HasEachOnce graph.count order
   pub least : TakesLeastFree graph order
