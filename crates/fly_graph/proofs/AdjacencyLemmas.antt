@@ -1,6 +1,6 @@
 -- The edges that leave a number are a part of the sorted list.
-use Rattle.std.proofs.Common.{◌≡◌, ℕ, zero, suc, ◌+◌, ◌-◌, ◌<◌, ◌≤◌, Bool, true, false, cond, List, [], ◌∷◌, length, get_or, take, drop, eqb, refl, sym, ◌∙◌, ap, subst, ⊎_elim, arith}
-use Rattle.std.specs.List.{Contains, All, filter}
+use Rattle.std.proofs.Common.{◌≡◌, ℕ, zero, suc, ◌+◌, ◌-◌, ◌<◌, ◌≤◌, Bool, true, false, cond, List, [], ◌∷◌, length, get_or, take, drop, eqb, refl, sym, ◌∙◌, ap, ⊎_elim, arith}
+use Rattle.std.specs.List.{filter}
 use Rattle.std.proofs.lemmas.Bool.{eq-eqb, ne_eqb, cases_lt}
 use Rattle.fly_graph.specs.Adjacency.{edges_leaving, StartsAt}
 
@@ -30,10 +30,11 @@ filter_between p d (x ∷ xs) (suc i) n fits h =
 pub leaving_between : (edges : List (ℕ × ℕ)) (v start end : ℕ) → StartsAt edges v start → StartsAt edges (v + 1) end → take (end - start) (drop start edges) ≡ edges_leaving edges v
 leaving_between edges v start end first second =
     let up : start ≤ end = ordered in
-    filter_between (λ edge. eqb edge.0 v) (0, 0) edges start (end - start) (omega (arith, second.within)) (λ k within.
-        (λ before. ne_eqb _ _ (λ e. let low : (get_or edges k (0, 0)).0 < v = first.before k before in absurd (omega arith)),
-        λ from before. eq-eqb _ _ (let low : v ≤ (get_or edges k (0, 0)).0 = first.after k from within in let high : (get_or edges k (0, 0)).0 < v + 1 = second.before k (omega arith) in omega arith),
-        λ past. ne_eqb _ _ (λ e. let high : v + 1 ≤ (get_or edges k (0, 0)).0 = second.after k (omega arith) within in absurd (omega arith))))
+    filter_between (λ edge. eqb edge.0 v) (0, 0) edges start (end - start) (omega (arith, second.within)) (λ k within. (
+      λ before. ne_eqb _ _ (λ e. let low : (get_or edges k (0, 0)).0 < v = first.before k before in absurd (omega arith)),
+      λ from before. eq-eqb _ _ (let low : v ≤ (get_or edges k (0, 0)).0 = first.after k from within in let high : (get_or edges k (0, 0)).0 < v + 1 = second.before k (omega arith) in omega arith),
+      λ past. ne_eqb _ _ (λ e. let high : v + 1 ≤ (get_or edges k (0, 0)).0 = second.after k (omega arith) within in absurd (omega arith)),
+    ))
   where
     ordered : start ≤ end
     ordered = ⊎_elim (λ back.

@@ -1,9 +1,9 @@
 -- Lists of numbers as sets: which numbers they have, and how many they can have.
-use Rattle.std.proofs.Common.{◌≡◌, ◌⊎◌, ℕ, zero, suc, subst, ◌+◌, ◌<◌, ◌≤◌, Bool, true, false, cond, List, [], ◌∷◌, ◌++◌, length, get_or, take, eqb, inl, inr, ⊎_elim, refl, sym, arith, ◌∙◌, length-take, get_or-take}
-use Rattle.std.specs.List.{Contains, All, list_any, filter, IsDistinct}
+use Rattle.std.proofs.Common.{◌≡◌, ◌⊎◌, ℕ, zero, suc, subst, ◌<◌, ◌≤◌, Bool, true, false, cond, List, [], ◌∷◌, length, get_or, take, eqb, inl, inr, ⊎_elim, refl, sym, arith, ◌∙◌, length-take, get_or-take}
+use Rattle.std.specs.List.{Contains, list_any, filter, IsDistinct}
 use Rattle.std.specs.Cmp.{nat_eq_equiv}
-use Rattle.std.proofs.lemmas.List.{get_or_default, get_or-append_right, get_or_append_left, length-append}
-use Rattle.std.proofs.lemmas.List.Elements.{Contains-append_left, Contains-push, Contains-push_cases, Contains-get_or, Contains-append_right, recursion_from_All}
+use Rattle.std.proofs.lemmas.List.{get_or_default}
+use Rattle.std.proofs.lemmas.List.Elements.{Contains-get_or, Contains-append_right, recursion_from_All}
 use Rattle.std.proofs.lemmas.Bool.{eqb-true, ne_eqb, cases_Bool, cases_eq, false≢true, false_from_ne_true}
 use Rattle.std.proofs.lemmas.Map.Views.{list_any-from_Contains, Contains-from_any}
 use Rattle.std.proofs.lemmas.Map.Steps.{length-le_from_distinct_below, le-length_from_below}
@@ -39,8 +39,8 @@ Contains-take_from xs n i before within =
 pub IsDistinct_from_fresh : (xs : List ℕ) → ((j : ℕ) → j < length xs → ¬ Contains (take j xs) (get_or xs j 0)) → IsDistinct eqb xs
 IsDistinct_from_fresh xs fresh =
     IsDistinct-from_apart eqb xs (λ i j d before within.
-        let first : i < length xs = omega arith in
-        ne_eqb _ _ (λ e. fresh j within (subst (Contains (take j xs)) (get_or_default xs i 0 d first ∙ e ∙ get_or_default xs j d 0 within) (Contains-take_from xs j i before first))))
+    let first : i < length xs = omega arith in
+    ne_eqb _ _ (λ e. fresh j within (subst (Contains (take j xs)) (get_or_default xs i 0 d first ∙ e ∙ get_or_default xs j d 0 within) (Contains-take_from xs j i before first))))
 
 pub below_of_any : (xs : List ℕ) (n : ℕ) → ((q : ℕ) → Contains xs q → q < n) → (q : ℕ) → list_any (eqb q) xs ≡ true → q < n
 below_of_any xs n below q e = below q (Contains_from_any xs q e)
@@ -71,8 +71,8 @@ below_cons x xs n small below q has = ⊎_elim (λ e. subst (λ y. y < n) e smal
 pub all_there : (xs : List ℕ) (n : ℕ) → IsDistinct eqb xs → ((q : ℕ) → Contains xs q → q < n) → n ≤ length xs → (v : ℕ) → v < n → Contains xs v
 all_there xs n distinct below long v small =
     ⊎_elim (λ has. has) (λ lacks.
-        let few : length (v ∷ xs) ≤ n = length_le (v ∷ xs) n (IsDistinct_before v xs lacks distinct) (below_cons v xs n small below) in
-        absurd (omega arith)) (contains_or_not xs v)
+    let few : length (v ∷ xs) ≤ n = length_le (v ∷ xs) n (IsDistinct_before v xs lacks distinct) (below_cons v xs n small below) in
+    absurd (omega arith)) (contains_or_not xs v)
 
 last_there : (xs : List ℕ) (n : ℕ) → ((v : ℕ) → v < n → Contains xs v) → Contains xs n → (v : ℕ) → v < suc n → Contains xs v
 last_there xs n below has v small =
@@ -82,15 +82,15 @@ all_or_missing : (xs : List ℕ) (n : ℕ) → ((v : ℕ) × (v < n) × (Contain
 all_or_missing xs zero = inr (λ v small. absurd (omega arith))
 all_or_missing xs (suc n) =
     ⊎_elim (λ found. inl (found.0, let small : found.0 < n = found.1 in omega arith, found.2))
-        (λ below. ⊎_elim (λ has. inr (last_there xs n below has)) (λ lacks. inl (n, omega arith, lacks)) (contains_or_not xs n))
-        (all_or_missing xs n)
+    (λ below. ⊎_elim (λ has. inr (last_there xs n below has)) (λ lacks. inl (n, omega arith, lacks)) (contains_or_not xs n))
+    (all_or_missing xs n)
 
 -- fewer numbers than n lack one below n
 pub missing_one : (xs : List ℕ) (n : ℕ) → length xs < n → (v : ℕ) × (v < n) × (Contains xs v → ⊥)
 missing_one xs n short =
     ⊎_elim (λ found. found) (λ below.
-        let long : n ≤ length xs = le-length_from_below xs n (λ q small. any_from_Contains xs q (below q small)) in
-        absurd (omega arith)) (all_or_missing xs n)
+    let long : n ≤ length xs = le-length_from_below xs n (λ q small. any_from_Contains xs q (below q small)) in
+    absurd (omega arith)) (all_or_missing xs n)
 
 pub IsDistinct_nil : IsDistinct eqb []
 unfolding IsDistinct
@@ -105,8 +105,8 @@ pub Contains-filter : {X : Type 0} (p : X → Bool) (xs : List X) (x : X) → Co
 Contains-filter p [] x has = absurd (Contains-nil x has)
 Contains-filter p (y ∷ xs) x has =
     ⊎_elim (λ e. ((0, omega arith, e.1), subst (λ z. p z ≡ true) e.1 e.0))
-        (λ other. let more = Contains-filter p xs x other in (Contains-append_right (y ∷ []) xs x more.0, more.1))
-        (Contains-filter_cons (p y) y xs (filter p xs) x (λ h. (Contains-filter p xs x h).0) has)
+    (λ other. let more = Contains-filter p xs x other in (Contains-append_right (y ∷ []) xs x more.0, more.1))
+    (Contains-filter_cons (p y) y xs (filter p xs) x (λ h. (Contains-filter p xs x h).0) has)
 
 kept_cons : {X : Type 0} (b : Bool) (y : X) (rest : List X) (x : X) → Contains rest x → Contains (cond b (y ∷ rest) rest) x
 kept_cons true y rest x has = Contains-append_right (y ∷ []) rest x has
@@ -121,5 +121,5 @@ pub Contains-filter_from : {X : Type 0} (p : X → Bool) (xs : List X) (x : X) �
 Contains-filter_from p [] x has passes = absurd (Contains-nil x has)
 Contains-filter_from p (y ∷ xs) x has passes =
     ⊎_elim (λ e. subst (Contains (filter p (y ∷ xs))) e (kept_first (p y) y (filter p xs) (subst (λ z. p z ≡ true) (sym e) passes)))
-        (λ other. kept_cons (p y) y (filter p xs) x (Contains-filter_from p xs x other passes))
-        (Contains-cons_cases y xs x has)
+    (λ other. kept_cons (p y) y (filter p xs) x (Contains-filter_from p xs x other passes))
+    (Contains-cons_cases y xs x has)

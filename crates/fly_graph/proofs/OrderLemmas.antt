@@ -1,9 +1,9 @@
 -- What taking the least free number again and again gives, and when it stops.
-use Rattle.std.proofs.Common.{◌≡◌, ◌⊎◌, ◌↔◌, ℕ, zero, suc, ◌+◌, ◌-◌, ◌<◌, ◌≤◌, List, [], ◌∷◌, ◌++◌, length, get_or, take, eqb, inl, inr, ⊎_elim, refl, sym, ◌∙◌, subst, ap, add-one, arith}
-use Rattle.std.specs.List.{Contains, All, IsDistinct}
+use Rattle.std.proofs.Common.{◌≡◌, ◌⊎◌, ℕ, zero, suc, ◌+◌, ◌<◌, ◌≤◌, List, [], ◌∷◌, ◌++◌, length, get_or, take, eqb, inl, inr, ⊎_elim, refl, sym, ◌∙◌, subst, ap, add-one, arith}
+use Rattle.std.specs.List.{Contains, IsDistinct}
 use Rattle.std.proofs.lemmas.Bool.{cases_eq, cases_lt}
 use Rattle.std.proofs.lemmas.List.{get_or_default, take_all, take_more_same, length_push, get_or_push, get_or_append_left, take-append-le, take_at}
-use Rattle.std.proofs.lemmas.List.Elements.{Contains-get_or, All-contains, Contains-append_left, Contains-append_right}
+use Rattle.std.proofs.lemmas.List.Elements.{All-contains, Contains-append_right}
 use Rattle.fly_graph.specs.Walks.{IsEdge, IsWalk, Reaches}
 use Rattle.fly_graph.specs.Orders.{Digraph, EndsBelow, IsFree, IsLeastFree, TakesLeastFree, HasEachOnce, EdgesGoForward, IsAcyclic, IsOrder, IsLeastOrder}
 use Rattle.fly_graph.proofs.WalkLemmas.{reaches_by_edge, reaches_trans}
@@ -31,14 +31,14 @@ module _ (graph : Digraph) where
   pub takes_push : (order : List ℕ) (v : ℕ) → TakesLeastFree graph order → IsLeastFree graph order v → TakesLeastFree graph (order ++ v ∷ [])
   takes_push order v takes least i within =
       ⊎_elim (λ e.
-          let value : v ≡ get_or (order ++ v ∷ []) i 0 = sym (get_or_push order v 0 i (sym e)) in
-          let front : order ≡ take i (order ++ v ∷ []) = sym (take_at order (v ∷ []) i (sym e)) in
-          subst (λ w. IsLeastFree graph (take i (order ++ v ∷ [])) w) value (subst (λ done. IsLeastFree graph done v) front least))
+      let value : v ≡ get_or (order ++ v ∷ []) i 0 = sym (get_or_push order v 0 i (sym e)) in
+      let front : order ≡ take i (order ++ v ∷ []) = sym (take_at order (v ∷ []) i (sym e)) in
+      subst (λ w. IsLeastFree graph (take i (order ++ v ∷ [])) w) value (subst (λ done. IsLeastFree graph done v) front least))
       (λ other.
-          let long : i < length order = omega (arith, length_push order v) in
-          let value : get_or order i 0 ≡ get_or (order ++ v ∷ []) i 0 = sym (get_or_append_left order (v ∷ []) 0 i long) in
-          let front : take i order ≡ take i (order ++ v ∷ []) = sym (take-append-le i order (v ∷ []) (omega arith)) in
-          subst (λ w. IsLeastFree graph (take i (order ++ v ∷ [])) w) value (subst (λ done. IsLeastFree graph done (get_or order i 0)) front (takes i long)))
+      let long : i < length order = omega (arith, length_push order v) in
+      let value : get_or order i 0 ≡ get_or (order ++ v ∷ []) i 0 = sym (get_or_append_left order (v ∷ []) 0 i long) in
+      let front : take i order ≡ take i (order ++ v ∷ []) = sym (take-append-le i order (v ∷ []) (omega arith)) in
+      subst (λ w. IsLeastFree graph (take i (order ++ v ∷ [])) w) value (subst (λ done. IsLeastFree graph done (get_or order i 0)) front (takes i long)))
       (cases_eq i (length order))
 
   -- where an edge ends in the list, it begins before that
@@ -55,11 +55,11 @@ module _ (graph : Digraph) where
       let there = begins_before order takes (get_or order i 0) (get_or order j 0) j second refl edge in
       let before : there.0 < j = there.1 in
       ⊎_elim (λ e. let less : i < j = omega arith in less)
-          (λ apart. absurd (⊎_elim
-              (λ less. same_place order takes there.0 i less first there.3)
-              (λ more. same_place order takes i there.0 (let other : (there.0 ≡ i) → ⊥ = apart in omega arith) there.2 (sym there.3))
-              (cases_lt there.0 i)))
-          (cases_eq there.0 i)
+      (λ apart. absurd (⊎_elim
+      (λ less. same_place order takes there.0 i less first there.3)
+      (λ more. same_place order takes i there.0 (let other : (there.0 ≡ i) → ⊥ = apart in omega arith) there.2 (sym there.3))
+      (cases_lt there.0 i)))
+      (cases_eq there.0 i)
 
   -- where a walk ends in the list, it begins before that
   walks_forward : (order : List ℕ) → TakesLeastFree graph order → (u : ℕ) (between : List ℕ) (v j : ℕ) → j < length order → get_or order j 0 ≡ v → IsWalk graph.edges u between v → (i : ℕ) × (i < j) × (i < length order) × (get_or order i 0 ≡ u)
@@ -123,14 +123,14 @@ blocked_or_ready : (done : List ℕ) (v : ℕ) (edges : List (ℕ × ℕ)) → B
 blocked_or_ready done v [] = inr (λ u has. absurd (Contains-nil (u, v) has))
 blocked_or_ready done v (edge ∷ edges) =
     ⊎_elim (λ blocks. inl (blocks.0, Contains-append_right (edge ∷ []) edges (blocks.0, v) blocks.1, blocks.2))
-        (λ allows. ⊎_elim
-            (λ e. ⊎_elim
-                (λ has. inr (allows_more done v edge edges (λ _. has) allows))
-                (λ lacks. inl (edge.0, (0, omega arith, ap (λ w. (edge.0, w)) e), lacks))
-                (contains_or_not done edge.0))
-            (λ apart. inr (allows_more done v edge edges (λ e. absurd (apart e)) allows))
-            (cases_eq edge.1 v))
-        (blocked_or_ready done v edges)
+    (λ allows. ⊎_elim
+    (λ e. ⊎_elim
+    (λ has. inr (allows_more done v edge edges (λ _. has) allows))
+    (λ lacks. inl (edge.0, (0, omega arith, ap (λ w. (edge.0, w)) e), lacks))
+    (contains_or_not done edge.0))
+    (λ apart. inr (allows_more done v edge edges (λ e. absurd (apart e)) allows))
+    (cases_eq edge.1 v))
+    (blocked_or_ready done v edges)
 
 -- where each number of a kind, all of them below n, has an edge from a number of that kind, some number reaches itself
 module _ (edges : List (ℕ × ℕ)) (n : ℕ) (Q : ℕ → Type 0) (before : (v : ℕ) → Q v → (u : ℕ) × (u < n) × IsEdge edges u v × Q u) where
@@ -143,8 +143,8 @@ module _ (edges : List (ℕ × ℕ)) (n : ℕ) (Q : ℕ → Type 0) (before : (v
       let edge : Reaches edges u.0 v = reaches_by_edge edges u.0 v u.2 in
       let on : (x : ℕ) → Contains (v ∷ seen) x → Reaches edges u.0 x = λ x has. ⊎_elim (λ e. subst (Reaches edges u.0) e edge) (λ other. reaches_trans edges u.0 v x edge (reaches x other)) (Contains-cons_cases v seen x has) in
       ⊎_elim (λ has. (u.0, on u.0 has))
-          (λ lacks. trail fuel u.0 (v ∷ seen) u.3 (IsDistinct_before u.0 (v ∷ seen) lacks distinct) (below_cons u.0 (v ∷ seen) n u.1 below) on (omega arith))
-          (contains_or_not (v ∷ seen) u.0)
+      (λ lacks. trail fuel u.0 (v ∷ seen) u.3 (IsDistinct_before u.0 (v ∷ seen) lacks distinct) (below_cons u.0 (v ∷ seen) n u.1 below) on (omega arith))
+      (contains_or_not (v ∷ seen) u.0)
 
 module _ (graph : Digraph) (ends : EndsBelow graph.count graph.edges) where
   first_below : (u v : ℕ) → IsEdge graph.edges u v → u < graph.count
@@ -156,23 +156,23 @@ module _ (graph : Digraph) (ends : EndsBelow graph.count graph.edges) where
       let first = missing_one order graph.count short in
       let Q : ℕ → Type 0 = λ v. (v < graph.count) × (Contains order v → ⊥) in
       let before : (v : ℕ) → Q v → (u : ℕ) × (u < graph.count) × IsEdge graph.edges u v × Q u = λ v kind.
-          ⊎_elim (λ blocks.
-              let small = first_below blocks.0 v blocks.1 in
-              (blocks.0, small, blocks.1, (small, blocks.2)))
-              (λ allows. absurd (stuck v (record { below = kind.0; fresh = kind.1; ready = allows })))
-              (blocked_or_ready order v graph.edges) in
+      ⊎_elim (λ blocks.
+      let small = first_below blocks.0 v blocks.1 in
+      (blocks.0, small, blocks.1, (small, blocks.2)))
+      (λ allows. absurd (stuck v (record { below = kind.0; fresh = kind.1; ready = allows })))
+      (blocked_or_ready order v graph.edges) in
       trail graph.edges graph.count Q before graph.count first.0 [] (first.1, first.2) (IsDistinct_before first.0 [] (Contains-nil first.0) IsDistinct_nil)
-          (below_cons first.0 [] graph.count first.1 (λ q has. absurd (Contains-nil q has))) (λ x has. absurd (Contains-nil x has)) (omega arith)
+      (below_cons first.0 [] graph.count first.1 (λ q has. absurd (Contains-nil q has))) (λ x has. absurd (Contains-nil x has)) (omega arith)
 
   free_or_not : (done : List ℕ) (v : ℕ) → IsFree graph done v ⊎ (IsFree graph done v → ⊥)
   free_or_not done v =
       ⊎_elim (λ small. ⊎_elim
-          (λ has. inr (λ free. free.fresh has))
-          (λ lacks. ⊎_elim
-              (λ blocks. inr (λ free. blocks.2 (free.ready blocks.0 blocks.1)))
-              (λ allows. inl (record { below = small; fresh = lacks; ready = allows }))
-              (blocked_or_ready done v graph.edges))
-          (contains_or_not done v))
+      (λ has. inr (λ free. free.fresh has))
+      (λ lacks. ⊎_elim
+      (λ blocks. inr (λ free. blocks.2 (free.ready blocks.0 blocks.1)))
+      (λ allows. inl (record { below = small; fresh = lacks; ready = allows }))
+      (blocked_or_ready done v graph.edges))
+      (contains_or_not done v))
       (λ large. inr (λ free. let small : v < graph.count = free.below in absurd (omega arith)))
       (cases_lt v graph.count)
 
@@ -180,21 +180,21 @@ module _ (graph : Digraph) (ends : EndsBelow graph.count graph.edges) where
   least_below done zero = inr (λ w small. absurd (omega arith))
   least_below done (suc n) =
       ⊎_elim (λ found. inl found)
-          (λ none. ⊎_elim (λ free. inl (n, free, none))
-              (λ not. inr (λ w small free. ⊎_elim (λ e. not (subst (IsFree graph done) e free)) (λ apart. none w (omega arith) free) (cases_eq w n)))
-              (free_or_not done n))
-          (least_below done n)
+      (λ none. ⊎_elim (λ free. inl (n, free, none))
+      (λ not. inr (λ w small free. ⊎_elim (λ e. not (subst (IsFree graph done) e free)) (λ apart. none w (omega arith) free) (cases_eq w n)))
+      (free_or_not done n))
+      (least_below done n)
 
   order_by : (fuel : ℕ) (order : List ℕ) → TakesLeastFree graph order → graph.count ≤ fuel + length order → IsAcyclic graph.edges → (whole : List ℕ) × IsLeastOrder graph whole
   order_by zero order takes long acyclic =
       (order, record { once = taken_once graph order takes (omega (arith, taken_length graph order takes)); least = takes })
   order_by (suc fuel) order takes long acyclic =
       ⊎_elim (λ short. ⊎_elim
-          (λ found.
-              let least : IsLeastFree graph order found.0 = record { free = found.1; least = λ w free. ⊎_elim (λ low. absurd (found.2 w low free)) (λ high. high) (cases_lt w found.0) } in
-              order_by fuel (order ++ found.0 ∷ []) (takes_push graph order found.0 takes least) (omega (arith, length_push order found.0)) acyclic)
-          (λ none. let cycle = cycle_from_stuck order (λ v free. none v free.below free) short in absurd (acyclic cycle.0 cycle.1))
-          (least_below order graph.count))
+      (λ found.
+      let least : IsLeastFree graph order found.0 = record { free = found.1; least = λ w free. ⊎_elim (λ low. absurd (found.2 w low free)) (λ high. high) (cases_lt w found.0) } in
+      order_by fuel (order ++ found.0 ∷ []) (takes_push graph order found.0 takes least) (omega (arith, length_push order found.0)) acyclic)
+      (λ none. let cycle = cycle_from_stuck order (λ v free. none v free.below free) short in absurd (acyclic cycle.0 cycle.1))
+      (least_below order graph.count))
       (λ full. (order, record { once = taken_once graph order takes (omega (arith, taken_length graph order takes)); least = takes }))
       (cases_lt (length order) graph.count)
 

@@ -1,15 +1,11 @@
 -- Counts of the edges that are missing before a number is free.
-use Rattle.std.proofs.Common.{◌≡◌, ◌⊎◌, ◌↔◌, ℕ, zero, suc, ◌+◌, ◌-◌, ◌<◌, ◌≤◌, Bool, true, false, cond, not, ◌&&◌, ◌||◌, List, [], ◌∷◌, ◌++◌, length, get_or, set, take, drop, eqb, ltb, count_by, inl, inr, ⊎_elim, refl, sym, ◌∙◌, ap, subst, arith}
-use Rattle.std.specs.List.{Contains, All, filter, list_any}
-use Rattle.std.proofs.lemmas.Bool.{eq-eqb, ne_eqb, eqb-true, eqb-false, cases_lt, cases_eq, cases_Bool, false≢true, or_right, and_from, and_right, lt-ltb}
+use Rattle.std.proofs.Common.{◌≡◌, ℕ, ◌+◌, ◌-◌, ◌<◌, ◌≤◌, Bool, true, false, cond, ◌&&◌, ◌||◌, List, length, get_or, set, take, eqb, ltb, count_by, ⊎_elim, refl, sym, ◌∙◌, ap, subst, arith}
+use Rattle.std.proofs.lemmas.Bool.{eq-eqb, ne_eqb, cases_eq, or_right, and_from, and_right, lt-ltb}
 use Rattle.std.proofs.lemmas.List.{get_or-set_same, get_or-set_other}
-use Rattle.std.proofs.lemmas.List.Sums.{sum_by_more, sum_by-cons, sum_by_more_le, count_by-le-length}
+use Rattle.std.proofs.lemmas.List.Sums.{sum_by_more, sum_by_more_le}
 use Rattle.std.specs.Ordering.{nat_cmp}
 use Rattle.std.specs.BTreeMap.{is_at}
 use Rattle.std.proofs.lemmas.Bool.Decides.{nat_tests}
-use Rattle.fly_graph.specs.Orders.{Digraph, EndsBelow, IsFree, IsLeastFree, TakesLeastFree}
-use Rattle.fly_graph.specs.Walks.{IsEdge}
-use Rattle.fly_graph.specs.Adjacency.{edges_leaving}
 
 -- a test as a number
 abbrev pub one_if : Bool → ℕ
@@ -29,14 +25,14 @@ pub count_one : (edges : List (ℕ × ℕ)) (missing : List ℕ) (i x : ℕ) →
 count_one edges missing i x within target value counted v small =
     let w = (get_or edges i (0, 0)).1 in
     ⊎_elim (λ e.
-        let yes : one_if (eqb w v) ≡ 1 = ap one_if (eq-eqb w v e) in
-        let new : get_or (set missing w (x + 1)) v 0 ≡ x + 1 = ap (λ q. get_or (set missing w (x + 1)) q 0) (sym e) ∙ get_or-set_same missing w (x + 1) 0 target in
-        let old : x ≡ edges_to v (take i edges) = value ∙ ap (λ q. get_or missing q 0) e ∙ counted v small in
-        omega (arith, edges_to_more edges i v within))
+    let yes : one_if (eqb w v) ≡ 1 = ap one_if (eq-eqb w v e) in
+    let new : get_or (set missing w (x + 1)) v 0 ≡ x + 1 = ap (λ q. get_or (set missing w (x + 1)) q 0) (sym e) ∙ get_or-set_same missing w (x + 1) 0 target in
+    let old : x ≡ edges_to v (take i edges) = value ∙ ap (λ q. get_or missing q 0) e ∙ counted v small in
+    omega (arith, edges_to_more edges i v within))
     (λ apart.
-        let no : one_if (eqb w v) ≡ 0 = ap one_if (ne_eqb w v apart) in
-        let new : get_or (set missing w (x + 1)) v 0 ≡ get_or missing v 0 = get_or-set_other missing w v (x + 1) 0 (λ e. apart (sym e)) in
-        omega (arith, edges_to_more edges i v within, counted v small))
+    let no : one_if (eqb w v) ≡ 0 = ap one_if (ne_eqb w v apart) in
+    let new : get_or (set missing w (x + 1)) v 0 ≡ get_or missing v 0 = get_or-set_other missing w v (x + 1) 0 (λ e. apart (sym e)) in
+    omega (arith, edges_to_more edges i v within, counted v small))
     (cases_eq w v)
 
 -- the edge at a place is counted
@@ -54,15 +50,15 @@ take_one edges missing start i within target enough taken v small =
     let w = (get_or edges i (0, 0)).1 in
     let x = get_or missing w 0 in
     ⊎_elim (λ e.
-        let yes : one_if (eqb w v) ≡ 1 = ap one_if (eq-eqb w v e) in
-        let new : get_or (set missing w (x - 1)) v 0 ≡ x - 1 = ap (λ q. get_or (set missing w (x - 1)) q 0) (sym e) ∙ get_or-set_same missing w (x - 1) 0 target in
-        let old : get_or missing v 0 ≡ x = ap (λ q. get_or missing q 0) (sym e) in
-        let same : edges_to v (take i edges) ≡ edges_to w (take i edges) = ap (λ q. edges_to q (take i edges)) (sym e) in
-        omega (arith, edges_to_more edges i v within, taken v small, taken w target, counts_one edges i within, enough))
+    let yes : one_if (eqb w v) ≡ 1 = ap one_if (eq-eqb w v e) in
+    let new : get_or (set missing w (x - 1)) v 0 ≡ x - 1 = ap (λ q. get_or (set missing w (x - 1)) q 0) (sym e) ∙ get_or-set_same missing w (x - 1) 0 target in
+    let old : get_or missing v 0 ≡ x = ap (λ q. get_or missing q 0) (sym e) in
+    let same : edges_to v (take i edges) ≡ edges_to w (take i edges) = ap (λ q. edges_to q (take i edges)) (sym e) in
+    omega (arith, edges_to_more edges i v within, taken v small, taken w target, counts_one edges i within, enough))
     (λ apart.
-        let no : one_if (eqb w v) ≡ 0 = ap one_if (ne_eqb w v apart) in
-        let new : get_or (set missing w (x - 1)) v 0 ≡ get_or missing v 0 = get_or-set_other missing w v (x - 1) 0 (λ e. apart (sym e)) in
-        omega (arith, edges_to_more edges i v within, taken v small))
+    let no : one_if (eqb w v) ≡ 0 = ap one_if (ne_eqb w v apart) in
+    let new : get_or (set missing w (x - 1)) v 0 ≡ get_or missing v 0 = get_or-set_other missing w v (x - 1) 0 (λ e. apart (sym e)) in
+    omega (arith, edges_to_more edges i v within, taken v small))
     (cases_eq w v)
 
 -- what a set of numbers has at a number
@@ -101,9 +97,9 @@ pub free_last : (edges : List (ℕ × ℕ)) (missing : List ℕ) (i x : ℕ) →
 free_last edges missing i x within first was now freed none here elsewhere v =
     let w : ℕ = (get_or edges i (0, 0)).1 in
     ⊎_elim (λ e.
-        let yes : one_if (eqb w w) ≡ 1 = ap one_if (eq-eqb w w refl) in
-        let some : 0 < edges_to w (take (i + 1) edges) = omega (arith, edges_to_more edges i w within) in
-        subst (λ q. now q ≡ is_freed (first q) (edges_to q (take (i + 1) edges)) (get_or (set missing w x) q 0)) e (here ∙ freed_at_none (first w) _ _ none some))
+    let yes : one_if (eqb w w) ≡ 1 = ap one_if (eq-eqb w w refl) in
+    let some : 0 < edges_to w (take (i + 1) edges) = omega (arith, edges_to_more edges i w within) in
+    subst (λ q. now q ≡ is_freed (first q) (edges_to q (take (i + 1) edges)) (get_or (set missing w x) q 0)) e (here ∙ freed_at_none (first w) _ _ none some))
     (λ apart. elsewhere v apart ∙ freed_elsewhere edges missing i x within (first v) (was v) v apart (freed v))
     (cases_eq w v)
 
@@ -115,6 +111,6 @@ pub free_none : (edges : List (ℕ × ℕ)) (missing : List ℕ) (i x : ℕ) →
 free_none edges missing i x within first was freed before after v =
     let w : ℕ = (get_or edges i (0, 0)).1 in
     ⊎_elim (λ e. subst (λ q. was q ≡ is_freed (first q) (edges_to q (take (i + 1) edges)) (get_or (set missing w x) q 0)) e
-        (freed w ∙ freed_at_some (first w) _ _ before ∙ sym (freed_at_some (first w) _ _ after)))
+    (freed w ∙ freed_at_some (first w) _ _ before ∙ sym (freed_at_some (first w) _ _ after)))
     (λ apart. freed_elsewhere edges missing i x within (first v) (was v) v apart (freed v))
     (cases_eq w v)

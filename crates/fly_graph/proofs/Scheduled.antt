@@ -1,10 +1,9 @@
 -- What the scheduling loop keeps: how many edges each number waits for, and which numbers are free.
-use Rattle.std.proofs.Common.{◌≡◌, ◌⊎◌, ◌↔◌, ℕ, zero, suc, ◌+◌, ◌-◌, ◌<◌, ◌≤◌, Bool, true, false, cond, not, ◌&&◌, ◌||◌, List, [], ◌∷◌, ◌++◌, length, get_or, set, take, drop, eqb, ltb, count_by, inl, inr, ⊎_elim, refl, sym, ◌∙◌, ap, subst, arith}
-use Rattle.std.specs.List.{Contains, All, filter, list_any}
+use Rattle.std.proofs.Common.{◌≡◌, ◌↔◌, ℕ, ◌+◌, ◌<◌, ◌≤◌, Bool, true, false, cond, not, ◌&&◌, ◌||◌, List, [], ◌∷◌, ◌++◌, length, get_or, eqb, ltb, count_by, ⊎_elim, refl, sym, ◌∙◌, ap, subst, arith}
+use Rattle.std.specs.List.{Contains, list_any}
 use Rattle.std.specs.Ordering.{nat_cmp}
-use Rattle.std.specs.BTreeMap.{is_at}
 use Rattle.std.specs.BTreeSet.{contains, BTreeSet}
-use Rattle.std.proofs.lemmas.Bool.{eq-eqb, ne_eqb, eqb-true, cases_lt, cases_eq, cases_Bool, false≢true, and_parts, and_from, lt-ltb, ltb-true, or_cases, or_left, or_right}
+use Rattle.std.proofs.lemmas.Bool.{eq-eqb, ne_eqb, eqb-true, cases_lt, cases_eq, false≢true, and_parts, and_from, lt-ltb, ltb-true, or_cases, or_left, or_right}
 use Rattle.std.proofs.lemmas.List.{get_or_default, length_push}
 use Rattle.std.proofs.lemmas.List.Sums.{sum_by-cons}
 use Rattle.std.proofs.lemmas.List.Folds.{list_any-append}
@@ -77,9 +76,9 @@ ready_from_waiting done v [] none u edge = absurd (Contains-nil (u, v) edge)
 ready_from_waiting done v (first ∷ edges) none u edge =
     let parts = waiting_cons done v first edges in
     ⊎_elim (λ e.
-        let here : one_if (holds_back done v first) ≡ 0 = omega arith in
-        let from : Contains done first.0 = Contains_from_any done first.0 (all_passed (eqb first.1 v) (list_any (eqb first.0) done) here (eq-eqb first.1 v (ap (λ (pair : ℕ × ℕ). pair.1) e))) in
-        subst (Contains done) (ap (λ (pair : ℕ × ℕ). pair.0) e) from)
+    let here : one_if (holds_back done v first) ≡ 0 = omega arith in
+    let from : Contains done first.0 = Contains_from_any done first.0 (all_passed (eqb first.1 v) (list_any (eqb first.0) done) here (eq-eqb first.1 v (ap (λ (pair : ℕ × ℕ). pair.1) e))) in
+    subst (Contains done) (ap (λ (pair : ℕ × ℕ). pair.0) e) from)
     (λ other. ready_from_waiting done v edges (omega arith) u other)
     (Contains-cons_cases first edges (u, v) edge)
 
@@ -94,18 +93,18 @@ edge_from_count : (v : ℕ) (edges : List (ℕ × ℕ)) → 0 < edges_to v edges
 edge_from_count v [] some = absurd (omega arith)
 edge_from_count v (first ∷ edges) some =
     ⊎_elim (λ e. (first.0, (0, omega arith, ap (λ w. (first.0, w)) e)))
-        (λ apart.
-            let no : one_if (eqb first.1 v) ≡ 0 = ap one_if (ne_eqb first.1 v apart) in
-            let more = edge_from_count v edges (omega (arith, edges_to_cons v first edges)) in
-            (more.0, Contains-append_right (first ∷ []) edges (more.0, v) more.1))
-        (cases_eq first.1 v)
+    (λ apart.
+    let no : one_if (eqb first.1 v) ≡ 0 = ap one_if (ne_eqb first.1 v apart) in
+    let more = edge_from_count v edges (omega (arith, edges_to_cons v first edges)) in
+    (more.0, Contains-append_right (first ∷ []) edges (more.0, v) more.1))
+    (cases_eq first.1 v)
 
 count_from_edge : (u v : ℕ) (edges : List (ℕ × ℕ)) → IsEdge edges u v → 0 < edges_to v edges
 count_from_edge u v [] edge = absurd (Contains-nil (u, v) edge)
 count_from_edge u v (first ∷ edges) edge =
     ⊎_elim (λ e.
-        let yes : one_if (eqb first.1 v) ≡ 1 = ap one_if (eq-eqb first.1 v (ap (λ (pair : ℕ × ℕ). pair.1) e)) in
-        omega (arith, edges_to_cons v first edges))
+    let yes : one_if (eqb first.1 v) ≡ 1 = ap one_if (eq-eqb first.1 v (ap (λ (pair : ℕ × ℕ). pair.1) e)) in
+    omega (arith, edges_to_cons v first edges))
     (λ other. omega (arith, edges_to_cons v first edges, count_from_edge u v edges other))
     (Contains-cons_cases first edges (u, v) edge)
 
@@ -133,15 +132,16 @@ module _ (graph : Digraph) where
     takes = λ i within. absurd (omega arith);
     len = len;
     counted = λ v small. counted v small ∙ sym (waiting_first v graph.edges);
-    frees = λ v.
-        (λ e.
-            let parts = and_parts _ _ (sym (frees v) ∙ e) in
-            let small : v < graph.count = ltb-true v graph.count parts.0 in
-            let none : waiting [] v graph.edges ≡ 0 = waiting_first v graph.edges ∙ sym (counted v small) ∙ eqb-true _ 0 parts.1 in
-            record { below = small; fresh = Contains-nil v; ready = ready_from_waiting [] v graph.edges none },
-        λ is_free.
-            let none : get_or missing v 0 ≡ 0 = counted v is_free.below ∙ sym (waiting_first v graph.edges) ∙ waiting_from_ready [] v graph.edges is_free.ready in
-            frees v ∙ and_from _ _ (lt-ltb v graph.count is_free.below) (eq-eqb _ 0 none));
+    frees = λ v. (
+      λ e.
+          let parts = and_parts _ _ (sym (frees v) ∙ e) in
+          let small : v < graph.count = ltb-true v graph.count parts.0 in
+          let none : waiting [] v graph.edges ≡ 0 = waiting_first v graph.edges ∙ sym (counted v small) ∙ eqb-true _ 0 parts.1 in
+          record { below = small; fresh = Contains-nil v; ready = ready_from_waiting [] v graph.edges none },
+      λ is_free.
+          let none : get_or missing v 0 ≡ 0 = counted v is_free.below ∙ sym (waiting_first v graph.edges) ∙ waiting_from_ready [] v graph.edges is_free.ready in
+          frees v ∙ and_from _ _ (lt-ltb v graph.count is_free.below) (eq-eqb _ 0 none),
+    );
   }
 
   module _ (ends : EndsBelow graph.count graph.edges) (missing : List ℕ) (free : BTreeSet ℕ) (order : List ℕ) (old : IsScheduled graph missing free order)
@@ -160,10 +160,10 @@ module _ (graph : Digraph) where
     target_fresh : (q : ℕ) → IsEdge graph.edges v q → Contains (order ++ v ∷ []) q → ⊥
     target_fresh q edge among =
         ⊎_elim (λ before.
-            let there = begins_before graph order old.takes v q before.0 before.1 (get_or_default order before.0 0 q before.1 ∙ before.2) edge in
-            taken_free.fresh (subst (Contains order) there.3 (Contains-get_or order there.0 0 there.2)))
-            (λ e. taken_free.fresh (taken_free.ready v (subst (IsEdge graph.edges v) (sym e) edge)))
-            (Contains-push_cases order v q among)
+        let there = begins_before graph order old.takes v q before.0 before.1 (get_or_default order before.0 0 q before.1 ∙ before.2) edge in
+        taken_free.fresh (subst (Contains order) there.3 (Contains-get_or order there.0 0 there.2)))
+        (λ e. taken_free.fresh (taken_free.ready v (subst (IsEdge graph.edges v) (sym e) edge)))
+        (Contains-push_cases order v q among)
 
     still_free : (q : ℕ) → (v ≡ q → ⊥) → IsFree graph order q → IsFree graph (order ++ v ∷ []) q
     still_free q apart is_free = record {
@@ -189,28 +189,28 @@ module _ (graph : Digraph) where
       free_from_set : (q : ℕ) → contains nat_cmp next q ≡ true → IsFree graph (order ++ v ∷ []) q
       free_from_set q e =
           ⊎_elim (λ before.
-              let apart : v ≡ q → ⊥ = λ same. false≢true (sym out ∙ ap (contains nat_cmp rest) same ∙ before) in
-              still_free q apart ((old.frees q).0 (sym (others q apart) ∙ before)))
+          let apart : v ≡ q → ⊥ = λ same. false≢true (sym out ∙ ap (contains nat_cmp rest) same ∙ before) in
+          still_free q apart ((old.frees q).0 (sym (others q apart) ∙ before)))
           (λ new.
-              let parts = and_parts _ _ new in
-              let edge = edge_from_leaving graph.edges v q (ltb-true 0 _ parts.0) in
-              let small = (All-contains (λ (e : ℕ × ℕ). (e.0 < graph.count) × (e.1 < graph.count)) graph.edges (v, q) ends edge).1 in
-              record {
-                below = small;
-                fresh = target_fresh q edge;
-                ready = ready_from_waiting (order ++ v ∷ []) q graph.edges (sym (counted_next q small) ∙ eqb-true _ 0 parts.1);
-              })
+          let parts = and_parts _ _ new in
+          let edge = edge_from_leaving graph.edges v q (ltb-true 0 _ parts.0) in
+          let small = (All-contains (λ (e : ℕ × ℕ). (e.0 < graph.count) × (e.1 < graph.count)) graph.edges (v, q) ends edge).1 in
+          record {
+            below = small;
+            fresh = target_fresh q edge;
+            ready = ready_from_waiting (order ++ v ∷ []) q graph.edges (sym (counted_next q small) ∙ eqb-true _ 0 parts.1);
+          })
           (or_cases _ _ (sym (freed q) ∙ e))
 
       set_from_free : (q : ℕ) → IsFree graph (order ++ v ∷ []) q → contains nat_cmp next q ≡ true
       set_from_free q is_free =
           ⊎_elim (λ some.
-              let none : get_or left q 0 ≡ 0 = counted_next q is_free.below ∙ waiting_from_ready (order ++ v ∷ []) q graph.edges is_free.ready in
-              freed q ∙ or_right _ _ (and_from _ _ (lt-ltb 0 _ some) (eq-eqb _ 0 none)))
+          let none : get_or left q 0 ≡ 0 = counted_next q is_free.below ∙ waiting_from_ready (order ++ v ∷ []) q graph.edges is_free.ready in
+          freed q ∙ or_right _ _ (and_from _ _ (lt-ltb 0 _ some) (eq-eqb _ 0 none)))
           (λ few.
-              let no_edge : IsEdge graph.edges v q → ⊥ = λ edge. let some : 0 < edges_to q (edges_leaving graph.edges v) = leaving_from_edge graph.edges v q edge in omega arith in
-              let apart : v ≡ q → ⊥ = λ same. is_free.fresh (subst (Contains (order ++ v ∷ [])) same (Contains-push order v)) in
-              freed q ∙ or_left _ _ (others q apart ∙ (old.frees q).1 (was_free q no_edge is_free)))
+          let no_edge : IsEdge graph.edges v q → ⊥ = λ edge. let some : 0 < edges_to q (edges_leaving graph.edges v) = leaving_from_edge graph.edges v q edge in omega arith in
+          let apart : v ≡ q → ⊥ = λ same. is_free.fresh (subst (Contains (order ++ v ∷ [])) same (Contains-push order v)) in
+          freed q ∙ or_left _ _ (others q apart ∙ (old.frees q).1 (was_free q no_edge is_free)))
           (cases_lt 0 (edges_to q (edges_leaving graph.edges v)))
 
       -- after v is taken

@@ -1,7 +1,7 @@
 -- A whole step of a search: an edge is followed.
-use Rattle.std.proofs.Common.{◌≡◌, ◌⊎◌, ℕ, zero, suc, ◌+◌, ◌-◌, ◌*◌, ◌<◌, ◌≤◌, Bool, true, false, cond, List, [], ◌∷◌, ◌++◌, length, get_or, set, take, drop, count_by, eqb, inl, inr, ⊎_elim, refl, sym, ◌∙◌, ap, subst, arith}
+use Rattle.std.proofs.Common.{◌≡◌, ℕ, ◌+◌, ◌-◌, ◌<◌, ◌≤◌, Bool, true, false, cond, List, length, get_or, set, inl, inr, ⊎_elim, refl, sym, ◌∙◌, ap, subst, arith}
 use Rattle.std.specs.List.{Contains}
-use Rattle.std.proofs.lemmas.Bool.{cases_eq, cases_lt, eq-eqb, ne_eqb}
+use Rattle.std.proofs.lemmas.Bool.{cases_eq, eq-eqb, ne_eqb}
 use Rattle.std.proofs.lemmas.List.{length_push, get_or-set_same, get_or_read}
 use Rattle.std.proofs.lemmas.List.Elements.{Contains-push_cases, Contains-get_or, All-contains}
 use Rattle.fly_graph.specs.declared.components.Mark.{Mark}
@@ -9,9 +9,9 @@ use Rattle.fly_graph.specs.declared.components.Mark.TheVariants.{Unseen, OnPath,
 use Rattle.fly_graph.specs.Walks.{IsEdge, Reaches}
 use Rattle.fly_graph.specs.Orders.{EndsBelow}
 use Rattle.fly_graph.specs.Adjacency.{edges_leaving}
-use Rattle.fly_graph.specs.Components.{State, mark_of, followed_of, is_cyclic, degree, target, IsSettled, IsSearch, entered, noted, met, met_at, joined, edges_left, work_left, is_unseen, KeepsSeen}
+use Rattle.fly_graph.specs.Components.{State, mark_of, followed_of, is_cyclic, degree, target, IsSettled, IsSearch, entered, noted, met, met_at, joined, work_left, is_unseen, KeepsSeen}
 use Rattle.fly_graph.proofs.WalkLemmas.{reaches_by_edge}
-use Rattle.fly_graph.proofs.SearchSteps.{same_place, unseen_off, done_off, edge_at, on_path_below, here, elsewhere, still_on, search_enter, search_note, search_follow, to_w, kept_of, search_join}
+use Rattle.fly_graph.proofs.SearchSteps.{unseen_off, done_off, edge_at, on_path_below, here, elsewhere, still_on, search_enter, search_note, search_follow, to_w, kept_of, search_join}
 use Rattle.fly_graph.proofs.SearchWork.{left_less, unseen_less}
 
 -- what holds once the edge from u, at the place pu, to w was met
@@ -34,8 +34,12 @@ module _ (count : ℕ) (edges : List (ℕ × ℕ)) (s : State) (old : IsSearch c
         search = search_enter count edges s old w small new reach;
         on = still_on count edges s old w small new reach u pu on;
         followed = refl;
-        settles = inr (length s.path, there, λ bound has le. ⊎_elim
-            (λ was. let low : bound < length s.path = old.bounds_within bound was in omega arith) (λ e. omega arith) (Contains-push_cases s.bounds (length s.path) bound has));
+        settles = inr (
+          length s.path,
+          there,
+          λ bound has le. ⊎_elim
+              (λ was. let low : bound < length s.path = old.bounds_within bound was in omega arith) (λ e. omega arith) (Contains-push_cases s.bounds (length s.path) bound has),
+        );
         loop = λ e. absurd (unseen_off _ pu new (ap (mark_of s) e ∙ on));
         seen = λ q seen. ⊎_elim (λ e. ap (λ a. is_unseen (mark_of (entered w s) a)) e ∙ ap is_unseen there)
             (λ apart. ap is_unseen (elsewhere count edges s old w small new reach q apart) ∙ seen) (cases_eq q w);
@@ -49,8 +53,8 @@ module _ (count : ℕ) (edges : List (ℕ × ℕ)) (s : State) (old : IsSearch c
   noted_search =
       let P : Bool → Type 0 = λ b. IsSearch count edges (record s { cyclic = cond b (set s.cyclic u true) s.cyclic }) in
       ⊎_elim (λ e. subst P (sym (eq-eqb w u e)) (search_note count edges s old u (subst (Reaches edges u) e (reaches_by_edge edges u w edge))))
-          (λ apart. subst P (sym (ne_eqb w u apart)) old)
-          (cases_eq w u)
+      (λ apart. subst P (sym (ne_eqb w u apart)) old)
+      (cases_eq w u)
 
   noted_loop : w ≡ u → is_cyclic (noted u w s) u ≡ true
   noted_loop e =

@@ -1,14 +1,13 @@
 -- Each step of a component search keeps what a search keeps.
-use Rattle.std.proofs.Common.{◌≡◌, ◌⊎◌, ◌↔◌, ℕ, zero, suc, ◌+◌, ◌-◌, ◌<◌, ◌≤◌, Bool, true, false, cond, ◌&&◌, List, [], ◌∷◌, ◌++◌, length, get_or, set, take, drop, replicate, eqb, ltb, leb, inl, inr, ⊎_elim, refl, sym, ◌∙◌, ap, subst, arith}
-use Rattle.std.specs.List.{Contains, All, AllPairs, filter, list_any}
-use Rattle.std.proofs.lemmas.Bool.{cases_eq, cases_lt, cases_order, cases_Bool, false≢true, eq-eqb, eqb-true, le-leb, leb-true}
+use Rattle.std.proofs.Common.{◌≡◌, ◌⊎◌, ℕ, ◌+◌, ◌-◌, ◌<◌, ◌≤◌, true, false, List, [], ◌∷◌, ◌++◌, length, get_or, set, take, replicate, eqb, leb, inl, inr, ⊎_elim, refl, sym, ◌∙◌, ap, subst, arith}
+use Rattle.std.specs.List.{Contains}
+use Rattle.std.proofs.lemmas.Bool.{cases_eq, cases_lt, cases_order, false≢true, eq-eqb, eqb-true, le-leb, leb-true}
 use Rattle.std.proofs.lemmas.List.{get_or-set_same, get_or-set_other, get_or_append_left, get_or_push, length_push, length-set, get_or_default, get_or_past, length-replicate}
-use Rattle.std.proofs.lemmas.List.Elements.{Contains-push, Contains-push_cases, Contains-append_left, Contains-get_or, All-contains}
+use Rattle.std.proofs.lemmas.List.Elements.{Contains-push, Contains-push_cases, Contains-append_left, Contains-get_or}
 use Rattle.std.proofs.lemmas.List.Kept.{AllPairs-filter}
 use Rattle.fly_graph.specs.declared.components.Mark.{Mark}
 use Rattle.fly_graph.specs.declared.components.Mark.TheVariants.{Unseen, OnPath, Done}
 use Rattle.fly_graph.specs.Walks.{IsEdge, Reaches}
-use Rattle.fly_graph.specs.Orders.{EndsBelow}
 use Rattle.fly_graph.specs.Adjacency.{edges_leaving}
 use Rattle.fly_graph.specs.Components.{State, mark_of, followed_of, is_cyclic, degree, target, AreTogether, IsSettled, IsSearch, entered, joined}
 use Rattle.fly_graph.proofs.WalkLemmas.{reaches_by_edge, reaches_trans}
@@ -105,7 +104,7 @@ module _ (count : ℕ) (edges : List (ℕ × ℕ)) where
       was_on : (q i : ℕ) → mark_of (entered v s) q ≡ OnPath i → ((q ≡ v) × (i ≡ length s.path)) ⊎ (mark_of s q ≡ OnPath i)
       was_on q i e =
           ⊎_elim (λ same. inl (same, same_place i (length s.path) (sym e ∙ ap (mark_of (entered v s)) same ∙ here)))
-              (λ apart. inr (sym (elsewhere q apart) ∙ e)) (cases_eq q v)
+          (λ apart. inr (sym (elsewhere q apart) ∙ e)) (cases_eq q v)
 
       was_done : (q : ℕ) → mark_of (entered v s) q ≡ Done → mark_of s q ≡ Done
       was_done q e =
@@ -118,8 +117,12 @@ module _ (count : ℕ) (edges : List (ℕ × ℕ)) where
       settled_still : (w i : ℕ) → i < length s.path → IsSettled s w i → IsSettled (entered v s) w i
       settled_still w i within =
           ⊎_elim (λ done. inl (still_done w done))
-              (λ on. inr (on.0, still_on w on.0 on.1, λ bound has le.
-                  ⊎_elim (λ was. on.2 bound was le) (λ e. absurd (omega arith)) (Contains-push_cases s.bounds (length s.path) bound has)))
+          (λ on. inr (
+            on.0,
+            still_on w on.0 on.1,
+            λ bound has le.
+                ⊎_elim (λ was. on.2 bound was le) (λ e. absurd (omega arith)) (Contains-push_cases s.bounds (length s.path) bound has),
+          ))
 
       -- v goes to the end of the path
       pub search_enter : IsSearch count edges (entered v s)
@@ -134,22 +137,22 @@ module _ (count : ℕ) (edges : List (ℕ × ℕ)) where
         marked = λ i within. ⊎_elim
             (λ e. ap (λ k. mark_of (entered v s) (get_or (s.path ++ v ∷ []) k 0)) e ∙ ap (mark_of (entered v s)) at_end ∙ here ∙ ap OnPath (sym e))
             (λ apart. let low : i < length s.path = omega (arith, length_push s.path v) in
-                ap (mark_of (entered v s)) (before i low) ∙ still_on (get_or s.path i 0) i (old.marked i low))
+            ap (mark_of (entered v s)) (before i low) ∙ still_on (get_or s.path i 0) i (old.marked i low))
             (cases_eq i (length s.path));
         forward = λ i j order within.
             let low : i < length s.path = omega (arith, length_push s.path v) in
             ⊎_elim
             (λ e. subst (λ a. Reaches edges a (get_or (s.path ++ v ∷ []) j 0)) (sym (before i low)) (subst (Reaches edges (get_or s.path i 0)) (sym (ap (λ k. get_or (s.path ++ v ∷ []) k 0) e ∙ at_end)) (reach i low)))
             (λ apart. let low_too : j < length s.path = omega (arith, length_push s.path v) in
-                subst (λ a. Reaches edges a (get_or (s.path ++ v ∷ []) j 0)) (sym (before i low)) (subst (Reaches edges (get_or s.path i 0)) (sym (before j low_too)) (old.forward i j order low_too)))
+            subst (λ a. Reaches edges a (get_or (s.path ++ v ∷ []) j 0)) (sym (before i low)) (subst (Reaches edges (get_or s.path i 0)) (sym (before j low_too)) (old.forward i j order low_too)))
             (cases_eq j (length s.path));
         back = λ i j order within together.
             let low : i < length s.path = omega (arith, length_push s.path v) in
             ⊎_elim
             (λ e. let after : j < length s.path = together (length s.path) (Contains-push s.bounds (length s.path)) low in absurd (omega arith))
             (λ apart. let low_too : j < length s.path = omega (arith, length_push s.path v) in
-                subst (λ a. Reaches edges a (get_or (s.path ++ v ∷ []) i 0)) (sym (before j low_too)) (subst (Reaches edges (get_or s.path j 0)) (sym (before i low))
-                    (old.back i j order low_too (λ bound has. together bound (Contains-append_left s.bounds (length s.path ∷ []) bound has)))))
+            subst (λ a. Reaches edges a (get_or (s.path ++ v ∷ []) i 0)) (sym (before j low_too)) (subst (Reaches edges (get_or s.path j 0)) (sym (before i low))
+            (old.back i j order low_too (λ bound has. together bound (Contains-append_left s.bounds (length s.path ∷ []) bound has)))))
             (cases_eq j (length s.path));
         rising = AllPairs_push s.bounds (length s.path) old.rising old.bounds_within;
         bounds_within = λ bound has. ⊎_elim (λ was. let low : bound < length s.path = old.bounds_within bound was in omega (arith, length_push s.path v)) (λ e. omega (arith, length_push s.path v)) (Contains-push_cases s.bounds (length s.path) bound has);
@@ -179,9 +182,9 @@ module _ (count : ℕ) (edges : List (ℕ × ℕ)) where
       flagged : (q : ℕ) → is_cyclic s q ≡ true → get_or (set s.cyclic u true) q false ≡ true
       flagged q e =
           ⊎_elim (λ same. ⊎_elim
-              (λ small. ap (λ k. get_or (set s.cyclic u true) k false) same ∙ get_or-set_same s.cyclic u true false small)
-              (λ large. absurd (false≢true (sym (get_or_past s.cyclic q false (omega arith)) ∙ e)))
-              (cases_lt u (length s.cyclic)))
+          (λ small. ap (λ k. get_or (set s.cyclic u true) k false) same ∙ get_or-set_same s.cyclic u true false small)
+          (λ large. absurd (false≢true (sym (get_or_past s.cyclic q false (omega arith)) ∙ e)))
+          (cases_lt u (length s.cyclic)))
           (λ apart. get_or-set_other s.cyclic u q true false apart ∙ e)
           (cases_eq q u)
 
@@ -223,9 +226,9 @@ module _ (count : ℕ) (edges : List (ℕ × ℕ)) where
       was_followed : (q j : ℕ) → j < get_or (set s.followed u (k + 1)) q 0 → ((q ≡ u) × (j ≡ k)) ⊎ (j < followed_of s q)
       was_followed q j less =
           ⊎_elim (λ same.
-              let now : get_or (set s.followed u (k + 1)) q 0 ≡ k + 1 = ap (λ a. get_or (set s.followed u (k + 1)) a 0) same ∙ followed_here in
-              let was : followed_of s q ≡ k = ap (followed_of s) same ∙ next in
-              ⊎_elim (λ e. inl (same, e)) (λ other. inr (omega arith)) (cases_eq j k))
+          let now : get_or (set s.followed u (k + 1)) q 0 ≡ k + 1 = ap (λ a. get_or (set s.followed u (k + 1)) a 0) same ∙ followed_here in
+          let was : followed_of s q ≡ k = ap (followed_of s) same ∙ next in
+          ⊎_elim (λ e. inl (same, e)) (λ other. inr (omega arith)) (cases_eq j k))
           (λ apart. let now = followed_elsewhere q apart in inr (omega (arith, now)))
           (cases_eq q u)
 
@@ -246,16 +249,16 @@ module _ (count : ℕ) (edges : List (ℕ × ℕ)) where
         fresh = λ q e. followed_elsewhere q (λ same. unseen_off _ pu e (ap (mark_of s) same ∙ on)) ∙ old.fresh q e;
         followed_few = λ q. ⊎_elim
             (λ same.
-                let now : get_or (set s.followed u (k + 1)) q 0 ≡ k + 1 = ap (λ a. get_or (set s.followed u (k + 1)) a 0) same ∙ followed_here in
-                let all : degree edges q ≡ degree edges u = ap (degree edges) same in
-                omega arith)
+            let now : get_or (set s.followed u (k + 1)) q 0 ≡ k + 1 = ap (λ a. get_or (set s.followed u (k + 1)) a 0) same ∙ followed_here in
+            let all : degree edges q ≡ degree edges u = ap (degree edges) same in
+            omega arith)
             (λ apart. omega (arith, followed_elsewhere q apart, old.followed_few q))
             (cases_eq q u);
         settled = λ q i j e less. ⊎_elim
             (λ both.
-                let place : pu ≡ i = same_place pu i (sym on ∙ ap (mark_of s) (sym both.0) ∙ e) in
-                let here : target edges u k ≡ target edges q j = ap (λ a. target edges a k) (sym both.0) ∙ ap (target edges q) (sym both.1) in
-                subst (IsSettled s (target edges q j)) place (subst (λ w. IsSettled s w pu) here settles))
+            let place : pu ≡ i = same_place pu i (sym on ∙ ap (mark_of s) (sym both.0) ∙ e) in
+            let here : target edges u k ≡ target edges q j = ap (λ a. target edges a k) (sym both.0) ∙ ap (target edges q) (sym both.1) in
+            subst (IsSettled s (target edges q j)) place (subst (λ w. IsSettled s w pu) here settles))
             (λ before. old.settled q i j e before)
             (was_followed q j less);
         loops = λ q j less e. ⊎_elim
@@ -265,9 +268,9 @@ module _ (count : ℕ) (edges : List (ℕ × ℕ)) where
         exhausted = λ q i e. ⊎_elim
             (λ has. inl has)
             (λ all. ⊎_elim
-                (λ same. let few : degree edges u ≤ followed_of s u = subst (λ a. degree edges a ≤ followed_of s a) same all in absurd (omega arith))
-                (λ apart. inr (omega (arith, followed_elsewhere q apart)))
-                (cases_eq q u))
+            (λ same. let few : degree edges u ≤ followed_of s u = subst (λ a. degree edges a ≤ followed_of s a) same all in absurd (omega arith))
+            (λ apart. inr (omega (arith, followed_elsewhere q apart)))
+            (cases_eq q u))
             (old.exhausted q i e);
         closed = old.closed;
         sound = old.sound;
@@ -296,10 +299,10 @@ module _ (count : ℕ) (edges : List (ℕ × ℕ)) where
         loops = old.loops;
         exhausted = λ q i e. ⊎_elim
             (λ has. ⊎_elim (λ front. inl front)
-                (λ same.
-                    let number : u ≡ q = sym (old.place u pu on).1 ∙ ap (λ a. get_or s.path a 0) same ∙ (old.place q i e).1 in
-                    inr (subst (λ a. degree edges a ≤ followed_of s a) number all))
-                (Contains-push_cases (take (length s.pending - 1) s.pending) pu i (subst (λ xs. Contains xs i) (front_and_last s.pending pu some top) has)))
+            (λ same.
+            let number : u ≡ q = sym (old.place u pu on).1 ∙ ap (λ a. get_or s.path a 0) same ∙ (old.place q i e).1 in
+            inr (subst (λ a. degree edges a ≤ followed_of s a) number all))
+            (Contains-push_cases (take (length s.pending - 1) s.pending) pu i (subst (λ xs. Contains xs i) (front_and_last s.pending pu some top) has)))
             (λ none. inr none)
             (old.exhausted q i e);
         closed = old.closed;
@@ -309,63 +312,63 @@ module _ (count : ℕ) (edges : List (ℕ × ℕ)) where
 
     -- an edge leads from u, a number of the last segment, to w
     module _ (u pu : ℕ) (on : mark_of s u ≡ OnPath pu) (last : (bound : ℕ) → Contains s.bounds bound → bound ≤ pu) (w : ℕ) (edge : IsEdge edges u w) where
-     u_at : get_or s.path pu 0 ≡ u
-     u_at = (old.place u pu on).1
+      u_at : get_or s.path pu 0 ≡ u
+      u_at = (old.place u pu on).1
 
-     -- each number on the path reaches w
-     pub to_w : (j : ℕ) → j < length s.path → Reaches edges (get_or s.path j 0) w
-     to_w j within =
-         let step : Reaches edges u w = reaches_by_edge edges u w edge in
-         ⊎_elim (λ e. subst (λ a. Reaches edges a w) (sym (ap (λ k. get_or s.path k 0) e ∙ u_at)) step)
-             (⊎_elim
-                 (λ before. reaches_trans edges _ u w (subst (Reaches edges (get_or s.path j 0)) u_at (old.forward j pu before (old.place u pu on).0)) step)
-                 (λ after. reaches_trans edges _ u w (subst (Reaches edges (get_or s.path j 0)) u_at (old.back pu j after within (λ bound has above. let low : bound ≤ pu = last bound has in absurd (omega arith)))) step))
-             (cases_order j pu)
+      -- each number on the path reaches w
+      pub to_w : (j : ℕ) → j < length s.path → Reaches edges (get_or s.path j 0) w
+      to_w j within =
+          let step : Reaches edges u w = reaches_by_edge edges u w edge in
+          ⊎_elim (λ e. subst (λ a. Reaches edges a w) (sym (ap (λ k. get_or s.path k 0) e ∙ u_at)) step)
+          (⊎_elim
+          (λ before. reaches_trans edges _ u w (subst (Reaches edges (get_or s.path j 0)) u_at (old.forward j pu before (old.place u pu on).0)) step)
+          (λ after. reaches_trans edges _ u w (subst (Reaches edges (get_or s.path j 0)) u_at (old.back pu j after within (λ bound has above. let low : bound ≤ pu = last bound has in absurd (omega arith)))) step))
+          (cases_order j pu)
 
-     -- the segments are joined from that of w on
-     module _ (place : ℕ) (earlier : mark_of s w ≡ OnPath place) where
-      pub kept_of : (bound : ℕ) → Contains (joined place s).bounds bound → Contains s.bounds bound × (bound ≤ place)
-      kept_of bound has = let kept = Contains-filter (λ b. leb b place) s.bounds bound has in (kept.0, leb-true bound place kept.1)
+      -- the segments are joined from that of w on
+      module _ (place : ℕ) (earlier : mark_of s w ≡ OnPath place) where
+        pub kept_of : (bound : ℕ) → Contains (joined place s).bounds bound → Contains s.bounds bound × (bound ≤ place)
+        kept_of bound has = let kept = Contains-filter (λ b. leb b place) s.bounds bound has in (kept.0, leb-true bound place kept.1)
 
-      kept_from : (bound : ℕ) → Contains s.bounds bound → bound ≤ place → Contains (joined place s).bounds bound
-      kept_from bound has low = Contains-filter_from (λ b. leb b place) s.bounds bound has (le-leb bound place low)
+        kept_from : (bound : ℕ) → Contains s.bounds bound → bound ≤ place → Contains (joined place s).bounds bound
+        kept_from bound has low = Contains-filter_from (λ b. leb b place) s.bounds bound has (le-leb bound place low)
 
-      w_at : get_or s.path place 0 ≡ w
-      w_at = (old.place w place earlier).1
+        w_at : get_or s.path place 0 ≡ w
+        w_at = (old.place w place earlier).1
 
-      back_joined : (i j : ℕ) → i < j → j < length s.path → AreTogether (joined place s).bounds i j → Reaches edges (get_or s.path j 0) (get_or s.path i 0)
-      back_joined i j order within together =
-          ⊎_elim
-              (λ past. 
-                  ⊎_elim (λ e. subst (Reaches edges (get_or s.path j 0)) (sym (ap (λ k. get_or s.path k 0) e ∙ w_at)) (to_w j within))
-                      (⊎_elim
-                          (λ before. reaches_trans edges _ w _ (to_w j within) (subst (λ a. Reaches edges a (get_or s.path i 0)) w_at (old.back i place before (old.place w place earlier).0
-                              (λ bound has above. ⊎_elim (λ up. up) (λ low. let more : j < bound = together bound (kept_from bound has low) above in absurd (omega arith)) (cases_lt place bound)))))
-                          (λ after. reaches_trans edges _ w _ (to_w j within) (subst (λ a. Reaches edges a (get_or s.path i 0)) w_at (old.forward place i after (omega arith)))))
-                      (cases_order i place))
-              (λ up_to. old.back i j order within (λ bound has above. ⊎_elim (λ up. omega arith) (λ low. together bound (kept_from bound has low) above) (cases_lt place bound)))
-              (cases_lt place j)
+        back_joined : (i j : ℕ) → i < j → j < length s.path → AreTogether (joined place s).bounds i j → Reaches edges (get_or s.path j 0) (get_or s.path i 0)
+        back_joined i j order within together =
+            ⊎_elim
+            (λ past.
+            ⊎_elim (λ e. subst (Reaches edges (get_or s.path j 0)) (sym (ap (λ k. get_or s.path k 0) e ∙ w_at)) (to_w j within))
+            (⊎_elim
+            (λ before. reaches_trans edges _ w _ (to_w j within) (subst (λ a. Reaches edges a (get_or s.path i 0)) w_at (old.back i place before (old.place w place earlier).0
+            (λ bound has above. ⊎_elim (λ up. up) (λ low. let more : j < bound = together bound (kept_from bound has low) above in absurd (omega arith)) (cases_lt place bound)))))
+            (λ after. reaches_trans edges _ w _ (to_w j within) (subst (λ a. Reaches edges a (get_or s.path i 0)) w_at (old.forward place i after (omega arith)))))
+            (cases_order i place))
+            (λ up_to. old.back i j order within (λ bound has above. ⊎_elim (λ up. omega arith) (λ low. together bound (kept_from bound has low) above) (cases_lt place bound)))
+            (cases_lt place j)
 
-      pub search_join : IsSearch count edges (joined place s)
-      search_join = record {
-        marks_len = old.marks_len;
-        followed_len = old.followed_len;
-        cyclic_len = old.cyclic_len;
-        place = old.place;
-        marked = old.marked;
-        forward = old.forward;
-        back = back_joined;
-        rising = AllPairs-filter (λ x y. x < y) (λ b. leb b place) s.bounds old.rising;
-        bounds_within = λ bound has. old.bounds_within bound (kept_of bound has).0;
-        first = λ some. kept_from 0 (old.first some) (omega arith);
-        pending_rising = old.pending_rising;
-        pending_within = old.pending_within;
-        fresh = old.fresh;
-        followed_few = old.followed_few;
-        settled = λ q i k e less. ⊎_elim (λ done. inl done) (λ settles. inr (settles.0, settles.1, λ bound has le. settles.2 bound (kept_of bound has).0 le)) (old.settled q i k e less);
-        loops = old.loops;
-        exhausted = old.exhausted;
-        closed = old.closed;
-        sound = old.sound;
-        complete = old.complete;
-      }
+        pub search_join : IsSearch count edges (joined place s)
+        search_join = record {
+          marks_len = old.marks_len;
+          followed_len = old.followed_len;
+          cyclic_len = old.cyclic_len;
+          place = old.place;
+          marked = old.marked;
+          forward = old.forward;
+          back = back_joined;
+          rising = AllPairs-filter (λ x y. x < y) (λ b. leb b place) s.bounds old.rising;
+          bounds_within = λ bound has. old.bounds_within bound (kept_of bound has).0;
+          first = λ some. kept_from 0 (old.first some) (omega arith);
+          pending_rising = old.pending_rising;
+          pending_within = old.pending_within;
+          fresh = old.fresh;
+          followed_few = old.followed_few;
+          settled = λ q i k e less. ⊎_elim (λ done. inl done) (λ settles. inr (settles.0, settles.1, λ bound has le. settles.2 bound (kept_of bound has).0 le)) (old.settled q i k e less);
+          loops = old.loops;
+          exhausted = old.exhausted;
+          closed = old.closed;
+          sound = old.sound;
+          complete = old.complete;
+        }

@@ -1,13 +1,13 @@
 -- Each step of a search leaves less work.
-use Rattle.std.proofs.Common.{◌≡◌, ◌⊎◌, ℕ, zero, suc, ◌+◌, ◌-◌, ◌*◌, ◌<◌, ◌≤◌, Bool, true, false, cond, List, [], ◌∷◌, ◌++◌, length, get_or, set, take, drop, count_by, eqb, ⊎_elim, refl, sym, ◌∙◌, ap, subst, arith, length-take, length-drop, get_or-drop}
-use Rattle.std.specs.List.{Contains, filter, list_any}
-use Rattle.std.proofs.lemmas.List.{length_push, get_or_default}
+use Rattle.std.proofs.Common.{◌≡◌, ℕ, zero, suc, ◌+◌, ◌<◌, Bool, true, false, cond, List, [], ◌∷◌, length, get_or, set, drop, count_by, eqb, refl, sym, ◌∙◌, ap, arith, length-take, length-drop, get_or-drop}
+use Rattle.std.specs.List.{list_any}
+use Rattle.std.proofs.lemmas.List.{get_or_default}
 use Rattle.std.proofs.lemmas.List.Sums.{sum_by-set, sum_by-cons}
 use Rattle.fly_graph.specs.declared.components.Mark.{Mark}
 use Rattle.fly_graph.specs.declared.components.Mark.TheVariants.{Unseen, OnPath, Done}
 use Rattle.fly_graph.proofs.Members.{Contains_from_any}
 use Rattle.fly_graph.proofs.ScheduleLemmas.{one_if}
-use Rattle.fly_graph.specs.Components.{State, mark_of, followed_of, degree, IsSearch, entered, edges_left, work_left, is_unseen, Closes, KeepsSeen}
+use Rattle.fly_graph.specs.Components.{State, mark_of, degree, IsSearch, edges_left, work_left, is_unseen, Closes, KeepsSeen}
 
 -- one more edge followed leaves one less
 pub left_less : (edges : List (ℕ × ℕ)) (v : ℕ) (followed : List ℕ) (i k : ℕ) → i < length followed → get_or followed i 0 ≡ k → k < degree edges (v + i) → edges_left edges v (set followed i (k + 1)) + 1 ≡ edges_left edges v followed
@@ -47,11 +47,11 @@ module _ (count : ℕ) (edges : List (ℕ × ℕ)) (s t : State) (old : IsSearch
   tells : (v : ℕ) → is_unseen (mark_of t v) ≡ is_unseen (mark_of s v)
   tells v = ap is_unseen (closes.marks v) ∙ cond_tells (list_any (eqb v) (drop bound s.path)) (mark_of s v)
       (λ e.
-          let has = Contains_from_any (drop bound s.path) v e in
-          let short : has.0 < length (drop bound s.path) = has.1 in
-          let inside : bound + has.0 < length s.path = omega (arith, length-drop bound s.path) in
-          let value : get_or s.path (bound + has.0) 0 ≡ v = get_or_default s.path (bound + has.0) 0 v inside ∙ sym (get_or-drop bound s.path has.0 v) ∙ has.2 in
-          seen_on (mark_of s v) (bound + has.0) (ap (mark_of s) (sym value) ∙ old.marked (bound + has.0) inside))
+      let has = Contains_from_any (drop bound s.path) v e in
+      let short : has.0 < length (drop bound s.path) = has.1 in
+      let inside : bound + has.0 < length s.path = omega (arith, length-drop bound s.path) in
+      let value : get_or s.path (bound + has.0) 0 ≡ v = get_or_default s.path (bound + has.0) 0 v inside ∙ sym (get_or-drop bound s.path has.0 v) ∙ has.2 in
+      seen_on (mark_of s v) (bound + has.0) (ap (mark_of s) (sym value) ∙ old.marked (bound + has.0) inside))
 
   pub close_keeps_seen : KeepsSeen s t
   close_keeps_seen v seen = tells v ∙ seen

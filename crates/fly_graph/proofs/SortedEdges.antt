@@ -4,7 +4,7 @@ use Rattle.std.specs.List.{Contains}
 use Rattle.std.specs.List.Sorted.{IsPermutation, IsStrictlyIncreasing}
 use Rattle.std.proofs.lemmas.List.Sorted.{Contains-permutation, All-permutation, IsPermutation-sym}
 use Rattle.fly_graph.specs.Walks.{IsEdge, Reaches}
-use Rattle.fly_graph.specs.Orders.{Digraph, EndsBelow, IsFree, IsLeastFree, TakesLeastFree, IsAcyclic, IsLeastOrder}
+use Rattle.fly_graph.specs.Orders.{Digraph, EndsBelow, IsFree, TakesLeastFree, IsAcyclic, IsLeastOrder}
 use Rattle.fly_graph.specs.Faults.{AreCyclic}
 use Rattle.fly_graph.proofs.OrderLemmas.{taken_length, taken_once, acyclic_from_order, cycle_from_stuck}
 use Rattle.fly_graph.proofs.WalkLemmas.{reaches_along}

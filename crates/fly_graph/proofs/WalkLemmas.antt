@@ -1,6 +1,5 @@
 -- Walks joined end to end, and carried from one list of edges to another.
-use Rattle.std.proofs.Common.{◌≡◌, ℕ, ◌+◌, ◌<◌, ◌≤◌, List, [], ◌∷◌, ◌++◌, length, get_or, refl, arith}
-use Rattle.std.specs.List.{Contains}
+use Rattle.std.proofs.Common.{ℕ, List, [], ◌∷◌, ◌++◌}
 use Rattle.fly_graph.specs.Walks.{IsEdge, IsWalk, Reaches}
 
 module _ (edges : List (ℕ × ℕ)) where

@@ -1,5 +1,5 @@
 -- A search for strongly connected components that goes along a path cut into segments.
-use Rattle.std.specs.Prelude.{◌≡◌, ℕ, ◌+◌, suc, ◌-◌, ◌*◌, count_by, ◌<◌, ◌≤◌, ◌⊎◌, ◌++◌, Bool, true, false, List, [], ◌∷◌, length, slice_index, slice_index_or, slice_set, take, drop, filter, nat_le, nat_lt, nat_eq, ◌&&◌, Contains, if◌then◌else◌, IsTrue}
+use Rattle.std.specs.Prelude.{◌≡◌, ℕ, ◌+◌, suc, ◌-◌, ◌*◌, count_by, ◌<◌, ◌≤◌, ◌⊎◌, ◌++◌, Bool, true, false, List, [], ◌∷◌, length, slice_index, slice_index_or, slice_set, take, drop, filter, nat_le, nat_lt, nat_eq, ◌&&◌, Contains, if◌then◌else◌}
 use Rattle.std.specs.List.{AllPairs, list_any}
 use Rattle.fly_graph.specs.declared.components.Mark.{Mark}
 use Rattle.fly_graph.specs.declared.components.Mark.TheVariants.{Unseen, OnPath, Done}

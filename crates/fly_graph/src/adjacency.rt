@@ -16,11 +16,7 @@ pub struct Adjacency {
 }
 
 impl Adjacency {
-    pub fn build(
-        alloc: Global,
-        count: u32,
-        edges: &[(u32, u32)],
-    ) -> Result<Adjacency, AllocError>
+    pub fn build(alloc: Global, count: u32, edges: &[(u32, u32)]) -> Result<Adjacency, AllocError>
         requires { EndsBelow count edges.now }
         ensures count { IfOk result (λ adjacency. adjacency.count ≡ count) }
         ensures edges { IfOk result (λ adjacency. IsPermutation edges.now adjacency.edges.items) }

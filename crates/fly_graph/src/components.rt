@@ -36,8 +36,13 @@ impl Search {
 
     fn new(alloc: Global, count: u32) -> Result<Search, AllocError>
         ensures { IfOk result (λ search. state_of search ≡ record {
-            marks = replicate count Mark.Unseen; followed = replicate count 0; cyclic = replicate count false;
-            path = []; bounds = []; pending = [] }) }
+          marks = replicate count Mark.Unseen;
+          followed = replicate count 0;
+          cyclic = replicate count false;
+          path = [];
+          bounds = [];
+          pending = [];
+        }) }
     {
         let count = count as usize;
         Ok(Search {

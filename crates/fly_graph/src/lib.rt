@@ -55,11 +55,7 @@ impl Graph {
 
     /// The graph of the numbers below `count` with these edges, each from its first number to its second. Edges may be
     /// repeated, and may lead from a number to itself.
-    pub fn of_edges(
-        alloc: Global,
-        count: u32,
-        edges: List<(u32, u32)>,
-    ) -> Result<Graph, NoMemory>
+    pub fn of_edges(alloc: Global, count: u32, edges: List<(u32, u32)>) -> Result<Graph, NoMemory>
         requires { EndsBelow count edges }
         ensures { IfOk result (λ graph. graph ≡ record { count = count; edges = edges }) }
     {
@@ -97,8 +93,7 @@ impl Graph {
 pub fn order_exists()
     ensures { (graph : Digraph) → EndsBelow graph.count graph.edges
         → ((order : Listed ℕ) × IsOrder graph order) ↔ IsAcyclic graph.edges }
-{
-}
+{}
 
 /// One order takes the least free number each time, and no other does.
 pub fn least_order()
@@ -106,5 +101,4 @@ pub fn least_order()
         → (order : Listed ℕ) × IsLeastOrder graph order }
     ensures only { (graph : Digraph) (order other : Listed ℕ)
         → IsLeastOrder graph order → IsLeastOrder graph other → order ≡ other }
-{
-}
+{}

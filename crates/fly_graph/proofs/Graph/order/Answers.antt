@@ -1,6 +1,5 @@
-use Rattle.std.proofs.Common.{◌≡◌, ℕ, List, length, sym, ◌∙◌, ap, subst}
-use Rattle.std.specs.List.{Contains}
-use Rattle.fly_graph.specs.Orders.{Digraph, HasEachOnce, EdgesGoForward, TakesLeastFree, IsAcyclic, IsLeastOrder}
+use Rattle.std.proofs.Common.{ℕ, List, sym, ◌∙◌, subst}
+use Rattle.fly_graph.specs.Orders.{Digraph, HasEachOnce, EdgesGoForward, TakesLeastFree, IsAcyclic}
 use Rattle.fly_graph.specs.Faults.{AreCyclic}
 use Rattle.fly_graph.proofs.OrderLemmas.{taken_forward}
 use Rattle.fly_graph.proofs.SortedEdges.{graph_of, full_order, full_acyclic, short_cyclic}
@@ -46,6 +45,6 @@ returns-clause-cyclic c =
     let order : List ℕ = c.in_ok-order.order.items in
     let numbers : List ℕ = c.in_ok-cyclic.cyclic.items in
     let cycles = short_cyclic inside.adjacency.count inside.edges inside.adjacency.edges.items c.self.invariant inside.adjacency.indexed.ends order c.in_ok-order.ensures.least c.in_ok-order.ensures.none_left
-        (λ full. c.if-len-self.false (c.len.ensures ∙ c.in_ok-order.order.ok.0 ∙ full)) numbers c.in_ok-cyclic.ensures.rising c.in_ok-cyclic.ensures.cyclic in
+    (λ full. c.if-len-self.false (c.len.ensures ∙ c.in_ok-order.order.ok.0 ∙ full)) numbers c.in_ok-cyclic.ensures.rising c.in_ok-cyclic.ensures.cyclic in
     let P : Digraph → Type 0 = λ graph. AreCyclic graph.edges numbers in
     subst (AreCyclic c.args.self.now.edges) (sym c.from_vec-2.ensures) (subst P c.self.view_is cycles)

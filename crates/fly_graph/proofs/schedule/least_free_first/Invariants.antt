@@ -1,5 +1,4 @@
 use Rattle.std.proofs.Common.{◌-◌, length}
-use Rattle.fly_graph.specs.Orders.{Digraph}
 use Rattle.fly_graph.proofs.Scheduled.{IsScheduled}
 use Rattle.fly_graph.proofs.schedule.least_free_first.Given as goal
 

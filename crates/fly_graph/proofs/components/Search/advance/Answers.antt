@@ -1,9 +1,6 @@
-use Rattle.std.proofs.Common.{◌≡◌, ℕ, ◌+◌, ◌-◌, ◌*◌, ◌<◌, ◌≤◌, List, length, get_or, set, take, sym, ◌∙◌, ap, subst, arith, rules}
-use Rattle.std.specs.List.{Contains}
-use Rattle.std.proofs.lemmas.List.{get_or_read, get_or_default}
-use Rattle.fly_graph.specs.declared.components.Mark.TheVariants.{OnPath}
+use Rattle.std.proofs.Common.{◌≡◌, ℕ, ◌+◌, ◌-◌, ◌<◌, List, length, get_or, set, take, sym, ◌∙◌, ap, subst, arith}
 use Rattle.fly_graph.specs.Adjacency.{edges_leaving}
-use Rattle.fly_graph.specs.Components.{State, state_of, IsSearch, KeepsSeen, work_left, met, mark_of, followed_of, degree, target}
+use Rattle.fly_graph.specs.Components.{State, state_of, IsSearch, work_left, met, target}
 use Rattle.fly_graph.proofs.SearchSteps.{search_retire}
 use Rattle.fly_graph.proofs.SearchAdvance.{top_within, top_marked, top_below, target_below, advance_search, advance_less, advance_len, followed_is, followed_within, more_left, none_left}
 use Rattle.fly_graph.proofs.components.Search.advance.Goals as goal

@@ -1,8 +1,8 @@
-use Rattle.std.proofs.Common.{◌≡◌, ℕ, ◌+◌, ◌<◌, ◌≤◌, true, false, List, leb, length, get_or, take, drop, filter, refl, sym, ◌∙◌, ap, subst, arith, rules}
+use Rattle.std.proofs.Common.{◌≡◌, ℕ, true, false, List, leb, length, take, filter, sym, ◌∙◌, ap, subst, arith, rules}
 use Rattle.std.specs.List.Sorted.{IsNonDecreasingBy, IsPartitionedBy, IsPartitionPoint}
 use Rattle.fly_graph.proofs.SearchLists.{non_decreasing_from_rising}
 use Rattle.std.proofs.lemmas.List.Sorted.{IsPartitionPoint-from_clause, IsPartitionedBy-leb}
-use Rattle.fly_graph.specs.Components.{State, joined, state_of}
+use Rattle.fly_graph.specs.Components.{state_of}
 use Rattle.fly_graph.proofs.AdjacencyLemmas.{filter_between}
 use Rattle.fly_graph.proofs.components.Search.join.Goals as goal
 

@@ -1,9 +1,9 @@
-use Rattle.std.proofs.Common.{◌≡◌, ℕ, ◌+◌, ◌-◌, ◌<◌, ◌≤◌, List, length, get_or, sym, ◌∙◌, ap, subst, arith}
+use Rattle.std.proofs.Common.{◌≡◌, ℕ, ◌-◌, ◌<◌, List, length, get_or, sym, ◌∙◌, subst, arith}
 use Rattle.std.specs.List.{Contains, slice_get}
-use Rattle.std.specs.Prelude.{Some, None}
+use Rattle.std.specs.Prelude.{Some}
 use Rattle.std.proofs.lemmas.List.{get_or_default}
 use Rattle.std.proofs.lemmas.List.Elements.{Contains-get_or}
-use Rattle.fly_graph.specs.Components.{State, state_of, IsSearch, Closes, KeepsSeen, work_left}
+use Rattle.fly_graph.specs.Components.{State, state_of, IsSearch}
 use Rattle.fly_graph.proofs.SearchLists.{last_known, all_below_last, none_without_last}
 use Rattle.fly_graph.proofs.SearchSteps.{on_path_below}
 use Rattle.fly_graph.proofs.SearchCloses.{search_close}
@@ -41,10 +41,11 @@ loop-bound-preserved c =
     let old = c.loop-bound.invariant.search in
     let last = bound_at _ _ s old c.deref.result.now c.in-Some.bound c.deref.ensures.value (sym (c.in-Some.ensures ∙ c.last.ensures.value)) in
     let spent : (place : ℕ) → Contains s.pending place → place < c.in-Some.bound = elim c.in_default-copied.branch [
-      in_default-copied-via-in-Some-copied+else-bound-place w ↦
-        all_below_last s.pending c.deref-in-Some.result.now w.in-Some-copied.place c.in-Some.bound c.deref-in-Some.ensures.value old.pending_rising (sym (w.in-Some-copied.ensures ∙ c.last-in-Some.ensures.value)) w.if-bound-place.false
-    | in_default-copied-via-in_default-copied w ↦
-        none_without_last s.pending c.deref-in-Some.result.now c.in-Some.bound c.deref-in-Some.ensures.value (sym (w.in_default-copied.ensures ∙ c.last-in-Some.ensures.value)) ] in
+      | in_default-copied-via-in-Some-copied+else-bound-place w ↦
+          all_below_last s.pending c.deref-in-Some.result.now w.in-Some-copied.place c.in-Some.bound c.deref-in-Some.ensures.value old.pending_rising (sym (w.in-Some-copied.ensures ∙ c.last-in-Some.ensures.value)) w.if-bound-place.false
+      | in_default-copied-via-in_default-copied w ↦
+          none_without_last s.pending c.deref-in-Some.result.now c.in-Some.bound c.deref-in-Some.ensures.value (sym (w.in_default-copied.ensures ∙ c.last-in-Some.ensures.value))
+    ] in
     record {
       search = search_close _ _ s (state_of c.close.new.self) old c.in-Some.bound c.close.ensures last.0 last.1 spent;
       seen = λ v seen. close_keeps_seen _ _ s (state_of c.close.new.self) old c.in-Some.bound c.close.ensures last.2 v (c.loop-bound.invariant.seen v seen);
