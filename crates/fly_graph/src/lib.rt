@@ -8,6 +8,8 @@ ghost use Rattle.fly_graph.specs.Orders.{Digraph, EndsBelow, HasEachOnce, EdgesG
 mod adjacency;
 mod components;
 mod schedule;
+#[cfg(test)]
+mod tests;
 
 use crate::adjacency::Adjacency;
 use fly_types::{List, NoMemory};
