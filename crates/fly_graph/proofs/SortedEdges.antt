@@ -4,14 +4,10 @@ use Rattle.std.specs.List.{Contains}
 use Rattle.std.specs.List.Sorted.{IsPermutation, IsStrictlyIncreasing}
 use Rattle.std.proofs.lemmas.List.Sorted.{Contains-permutation, All-permutation, IsPermutation-sym}
 use Rattle.fly_graph.specs.Walks.{IsEdge, Reaches}
-use Rattle.fly_graph.specs.Orders.{Digraph, EndsBelow, IsFree, TakesLeastFree, IsAcyclic, IsLeastOrder}
+use Rattle.fly_graph.specs.Orders.{graph_of, EndsBelow, IsFree, TakesLeastFree, IsAcyclic, IsLeastOrder}
 use Rattle.fly_graph.specs.Faults.{AreCyclic}
 use Rattle.fly_graph.proofs.OrderLemmas.{taken_length, taken_once, acyclic_from_order, cycle_from_stuck}
 use Rattle.fly_graph.proofs.WalkLemmas.{reaches_along}
-
--- the graph of a count and edges
-abbrev pub graph_of : ℕ → List (ℕ × ℕ) → Digraph
-graph_of count edges = record { count = count; edges = edges }
 
 module _ (count : ℕ) (edges sorted : List (ℕ × ℕ)) (same : IsPermutation edges sorted) where
   edge_to : (u v : ℕ) → IsEdge edges u v → IsEdge sorted u v

@@ -7,6 +7,9 @@ pub record Digraph : Type 0 where
   pub count : ℕ
   pub edges : List (ℕ × ℕ)
 
+abbrev pub graph_of : ℕ → List (ℕ × ℕ) → Digraph
+graph_of count edges = record { count = count; edges = edges }
+
 -- each edge joins numbers of the graph
 abbrev pub EndsBelow : ℕ → List (ℕ × ℕ) → Type 0
 EndsBelow count edges = All (λ edge. (edge.0 < count) × (edge.1 < count)) edges

@@ -3,7 +3,7 @@
 
 ghost use Rattle.std.specs.Prelude.{◌≡◌, ℕ, ◌<◌, ◌↔◌, List as Listed, IsTrue, IfOk, IfErr, OnOk};
 ghost use Rattle.fly_graph.specs.Walks.{Reaches};
-ghost use Rattle.fly_graph.specs.Orders.{Digraph, EndsBelow, HasEachOnce, EdgesGoForward, TakesLeastFree, IsAcyclic, IsOrder, IsLeastOrder};
+ghost use Rattle.fly_graph.specs.Orders.{Digraph, graph_of, EndsBelow, HasEachOnce, EdgesGoForward, TakesLeastFree, IsAcyclic, IsOrder, IsLeastOrder};
 
 mod adjacency;
 mod components;
@@ -43,11 +43,11 @@ pub struct Graph {
 
 impl Model for Graph {
     ghost use Rattle.std.specs.Prelude.{IsPermutation};
-    ghost use Rattle.fly_graph.specs.Orders.{Digraph};
+    ghost use Rattle.fly_graph.specs.Orders.{Digraph, graph_of};
 
     ghost Value = { Digraph };
 
-    ghost view = { λ g. record { count = g.adjacency.count; edges = g.edges } };
+    ghost view = { λ g. graph_of g.adjacency.count g.edges };
 
     ghost invariant = { λ g. IsPermutation g.edges g.adjacency.edges.items };
 }
@@ -59,7 +59,7 @@ impl Graph {
     /// repeated, and may lead from a number to itself.
     pub fn of_edges(alloc: Global, count: u32, edges: List<(u32, u32)>) -> Result<Graph, NoMemory>
         requires { EndsBelow count edges }
-        ensures { IfOk result (λ graph. graph ≡ record { count = count; edges = edges }) }
+        ensures { IfOk result (λ graph. graph ≡ graph_of count edges) }
     {
         let adjacency = Adjacency::build(alloc, count, edges.as_slice())?;
         Ok(Graph { edges, adjacency })

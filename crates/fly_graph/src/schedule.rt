@@ -1,7 +1,7 @@
 ghost use Rattle.std.specs.Prelude.{◌≡◌, ℕ, ◌+◌, ◌<◌, ◌≤◌, ◌==◌, ◌&&◌, ◌||◌, nat_lt, length, slice_index, count_by, All, IfOk, OnOk};
 ghost use Rattle.std.specs.Ordering.{nat_cmp};
 ghost use Rattle.std.specs.BTreeSet.{contains};
-ghost use Rattle.fly_graph.specs.Orders.{IsFree, TakesLeastFree};
+ghost use Rattle.fly_graph.specs.Orders.{graph_of, IsFree, TakesLeastFree};
 
 use crate::adjacency::Adjacency;
 use std::alloc::{AllocError, Global};
@@ -10,9 +10,9 @@ use std::collections::BTreeSet;
 /// Takes the least free number again and again, until none is free.
 pub fn least_free_first(alloc: Global, adjacency: &Adjacency) -> Result<Vec<u32>, AllocError>
     ensures least { IfOk result
-        (λ order. TakesLeastFree (record { count = adjacency.now.count; edges = adjacency.now.edges.items }) order.items) }
+        (λ order. TakesLeastFree (graph_of adjacency.now.count adjacency.now.edges.items) order.items) }
     ensures none_left { IfOk result
-        (λ order. (v : ℕ) → ¬ IsFree (record { count = adjacency.now.count; edges = adjacency.now.edges.items }) order.items v) }
+        (λ order. (v : ℕ) → ¬ IsFree (graph_of adjacency.now.count adjacency.now.edges.items) order.items v) }
 {
     let mut missing = incoming(alloc, adjacency)?;
     let mut free = sources(alloc, adjacency.count, missing.as_slice())?;

@@ -1,8 +1,8 @@
 use Rattle.std.proofs.Common.{ℕ, List, sym, ◌∙◌, subst}
-use Rattle.fly_graph.specs.Orders.{Digraph, HasEachOnce, EdgesGoForward, TakesLeastFree, IsAcyclic}
+use Rattle.fly_graph.specs.Orders.{Digraph, graph_of, HasEachOnce, EdgesGoForward, TakesLeastFree, IsAcyclic}
 use Rattle.fly_graph.specs.Faults.{AreCyclic}
 use Rattle.fly_graph.proofs.OrderLemmas.{taken_forward}
-use Rattle.fly_graph.proofs.SortedEdges.{graph_of, full_order, full_acyclic, short_cyclic}
+use Rattle.fly_graph.proofs.SortedEdges.{full_order, full_acyclic, short_cyclic}
 use Rattle.fly_graph.proofs.Graph.order.Goals as goal
 
 pub returns-then-len-self-clause-once : goal.returns-then-len-self-clause-once

@@ -5,17 +5,13 @@ use Rattle.std.specs.BTreeSet.{contains}
 use Rattle.std.proofs.lemmas.List.{with_items_is, length_push, nil_from_length}
 use Rattle.std.proofs.lemmas.List.Elements.{All-filter}
 use Rattle.std.proofs.lemmas.Map.Keys.{le_from_not_gt}
-use Rattle.fly_graph.specs.Orders.{Digraph}
+use Rattle.fly_graph.specs.Orders.{Digraph, graph_of}
 use Rattle.fly_graph.proofs.ScheduleLemmas.{apart_at, edges_to, is_freed}
 use Rattle.fly_graph.specs.Adjacency.{edges_leaving}
 use Rattle.std.specs.BTreeMap.{is_at}
 use Rattle.std.proofs.lemmas.Bool.{false≢true, cases_lt}
 use Rattle.fly_graph.proofs.Scheduled.{IsScheduled, scheduled_start, scheduled_next, one_left, waiting_less}
 use Rattle.fly_graph.proofs.schedule.least_free_first.Goals as goal
-
--- the graph of an adjacency
-abbrev graph_of : ℕ → List (ℕ × ℕ) → Digraph
-graph_of count edges = record { count = count; edges = edges }
 
 pub loop-v-init : goal.loop-v-init
 loop-v-init c =

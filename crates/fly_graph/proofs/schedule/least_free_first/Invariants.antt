@@ -1,9 +1,10 @@
 use Rattle.std.proofs.Common.{◌-◌, length}
+use Rattle.fly_graph.specs.Orders.{graph_of}
 use Rattle.fly_graph.proofs.Scheduled.{IsScheduled}
 use Rattle.fly_graph.proofs.schedule.least_free_first.Given as goal
 
 abbrev pub invariant-loop-v : goal.invariant-loop-v
-invariant-loop-v l = IsScheduled (record { count = l.adjacency.count; edges = l.adjacency.edges.items }) l.missing.items l.free l.order.items
+invariant-loop-v l = IsScheduled (graph_of l.adjacency.count l.adjacency.edges.items) l.missing.items l.free l.order.items
 
 abbrev pub decreases-loop-v : goal.decreases-loop-v
 decreases-loop-v l = l.adjacency.count - length l.order.items
