@@ -80,6 +80,12 @@ impl<T: TryCopy> List<T> {
     }
 }
 
+impl<A: TryCopy, B: TryCopy> TryCopy for (A, B) {
+    fn copy(&self, alloc: Global) -> Result<(A, B), NoMemory> {
+        Ok((self.0.copy(alloc)?, self.1.copy(alloc)?))
+    }
+}
+
 impl<T: TryCopy> TryCopy for List<T> {
     fn copy(&self, alloc: Global) -> Result<List<T>, NoMemory> {
         List::copy(self, alloc)
