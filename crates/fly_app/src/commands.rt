@@ -44,10 +44,10 @@ pub fn plain<R, F: Files, O: Sink, E: Sink>(
     // An answer or the line for a refusal was not written.
     ensures unwritten { result ≡ Status.WriteFault
         → (Rose (O.faults out.old) (O.faults out.new)
-            × Tries (E.written err.old) (E.written err.new) (E.faults err.old) (E.faults err.new) unwritten_text)
+        × Tries (E.written err.old) (E.written err.new) (E.faults err.old) (E.faults err.new) unwritten_text)
         ⊎ (Rose (E.faults err.old) (E.faults err.new) × (line : List ℕ)
-            × Says (F.contents files.old) words.now (F.read_faults files.old) (F.read_faults files.new) line
-            × FailsToTell (E.written err.old) (E.written err.new) line) }
+        × Says (F.contents files.old) words.now (F.read_faults files.old) (F.read_faults files.new) line
+        × FailsToTell (E.written err.old) (E.written err.new) line) }
 
     // There was no memory.
     ensures memory { result ≡ Status.NoMemory
