@@ -14,7 +14,7 @@ use Rattle.fly_docs.specs.Names.{IsId, start_node, end_node}
 use Rattle.fly_docs.specs.Interfaces.{names_of, bound_names}
 use Rattle.fly_docs.specs.Closures.{task_of}
 
--- no two places of the list have the same
+-- nothing comes twice in the list
 abbrev pub AreDistinct : {X : Type 0} → List X → Type 0
 AreDistinct xs = AllPairs (λ x y. x ≢ y) xs
 
@@ -55,7 +55,7 @@ pub record Binds (b : Bundle) (w : Workflow) (variables : List Variable) (bindin
 
 -- ---- templates
 
--- `{{.inputs.NAME}}`, with so many spaces beside the braces
+-- `{{.inputs.NAME}}`, with this many spaces behind the opening braces and before the closing ones
 abbrev pub template : List ℕ → ℕ → ℕ → List ℕ
 template name left right = codes "{{" ++ replicate left 32 ++ codes ".inputs." ++ name ++ replicate right 32 ++ codes "}}"
 
