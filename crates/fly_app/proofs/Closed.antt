@@ -1,4 +1,4 @@
--- The closure of a bundle of the first form.
+-- The closure of a bundle of one task.
 use Rattle.std.proofs.Common.{◌≡◌, ◌≢◌, ℕ, List, [], ◌∷◌, get_or, map, filter, Bool, true, false, not, ◌||◌, ◌&&◌, cond, Option, Some, Ordering, Less, Equal, Greater, is_eq, refl, sym, ap, subst, ◌∙◌, true≢false}
 use Rattle.std.specs.List.{list_any, AllByRecursion}
 use Rattle.std.specs.Str.{bytes_eq}
@@ -19,8 +19,8 @@ use Rattle.fly_docs.specs.Names.{start_node, end_node}
 use Rattle.fly_docs.specs.Interfaces.{promised_node}
 use Rattle.fly_docs.specs.Edges.{needs, is_same}
 use Rattle.fly_docs.specs.Closures.{by_id, task_of, closure_of}
-use Rattle.fly_app.specs.FirstForm.{IsFirstForm, FirstForm}
-use Rattle.fly_app.specs.FirstClosure.{first_closure}
+use Rattle.fly_app.specs.SingleTask.{RunsOneTask, IsSingleTaskBundle}
+use Rattle.fly_app.specs.SingleTaskClosure.{single_task_closure}
 
 -- ---- texts
 
@@ -50,12 +50,12 @@ no_promise id other (b ∷ bs) h =
     let e : bytes_eq (promised_node b.bound) id ≡ false = other_text (promised_node b.bound) id (λ same. other (sym same ∙ h.0)) in
     rw e (no_promise id other bs h.1)
 
-needs_nothing : (b : Bundle) (t : Task) (w : Workflow) (n : Node) → IsFirstForm b t w n → needs n n ≡ false
+needs_nothing : (b : Bundle) (t : Task) (w : Workflow) (n : Node) → RunsOneTask b t w n → needs n n ≡ false
 needs_nothing b t w n f =
     rw (no_promise n.id f.node.start n.inputs (recursion_from_All _ n.inputs f.inputs.promised), f.node.upstream)
 
-pub closure_of-first : (b : Bundle) (t : Task) (w : Workflow) (n : Node) → IsFirstForm b t w n → closure_of b ≡ Some (first_closure t w n)
-closure_of-first b t w n f =
+pub closure_of-single_task : (b : Bundle) (t : Task) (w : Workflow) (n : Node) → RunsOneTask b t w n → closure_of b ≡ Some (single_task_closure t w n)
+closure_of-single_task b t w n f =
     rw (f.workflows, f.primary, same_identifier w.id, f.tasks, f.nodes, f.target, same_identifier t.id, needs_nothing b t w n f)
 
 -- the one item of a list
@@ -64,12 +64,12 @@ shown items own x y same one at = sym (rw (same, one) at at)
 
 -- the same, at the task, the workflow and the node that the bundle's lists show
 pub closure_of-shown : (b : Bundle) (tasks : List Task) (workflows : List Workflow) (nodes : List Node) (t : Task) (w : Workflow) (n : Node)
-    → FirstForm b → tasks ≡ b.tasks → t ≡ get_or tasks 0 t → workflows ≡ b.workflows → w ≡ get_or workflows 0 w → nodes ≡ w.nodes → n ≡ get_or nodes 0 n
-    → closure_of b ≡ Some (first_closure t w n)
+    → IsSingleTaskBundle b → tasks ≡ b.tasks → t ≡ get_or tasks 0 t → workflows ≡ b.workflows → w ≡ get_or workflows 0 w → nodes ≡ w.nodes → n ≡ get_or nodes 0 n
+    → closure_of b ≡ Some (single_task_closure t w n)
 closure_of-shown b tasks workflows nodes t w n first same_tasks t_is same_workflows w_is same_nodes n_is =
     let f = first.3 in
     let same_task : first.0 ≡ t = shown tasks b.tasks t first.0 same_tasks f.tasks t_is in
     let same_workflow : first.1 ≡ w = shown workflows b.workflows w first.1 same_workflows f.workflows w_is in
     let own_nodes : w.nodes ≡ first.2 ∷ [] = rw (← same_workflow) f.nodes in
     let same_node : first.2 ≡ n = shown nodes w.nodes n first.2 same_nodes own_nodes n_is in
-    rw (← same_task, ← same_workflow, ← same_node) (closure_of-first b first.0 first.1 first.2 f)
+    rw (← same_task, ← same_workflow, ← same_node) (closure_of-single_task b first.0 first.1 first.2 f)

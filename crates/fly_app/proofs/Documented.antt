@@ -5,14 +5,14 @@ use Rattle.serde_json.specs.Read.{read, max_depth}
 use Rattle.serde_json.specs.Written.{has_float, compact_text}
 use Rattle.fly_docs.specs.declared.workflow.Bundle.{Bundle}
 use Rattle.fly_app.specs.Documents.{bundle_json}
-use Rattle.fly_app.specs.FirstForm.{FirstForm}
+use Rattle.fly_app.specs.SingleTask.{IsSingleTaskBundle}
 use Rattle.fly_app.specs.Candidate.{bundle_from}
 use Rattle.fly_app.proofs.Depths.{bundle-within}
 use Rattle.fly_app.proofs.Floats.{bundle-no_float}
 use Rattle.fly_app.proofs.RoundTrip.{bundle_back}
 
 -- what is made of the document of a bundle is the bundle
-pub candidate_is : (d : Data) (made b : Bundle) → made ≡ bundle_from d → FirstForm b → d ≡ bundle_json b → made ≡ b
+pub candidate_is : (d : Data) (made b : Bundle) → made ≡ bundle_from d → IsSingleTaskBundle b → d ≡ bundle_json b → made ≡ b
 candidate_is d made b is form json = is ∙ ap bundle_from json ∙ bundle_back b form.0 form.1 form.2 form.3
 
 -- the texts that are written for a value

@@ -8,6 +8,7 @@ use Rattle.fly_app.specs.declared.faults.DocKind.TheVariants as kinds
 use Rattle.fly_app.specs.Answers.{IsContent, HasClosure, HasFault}
 use Rattle.fly_app.specs.declared.closure_of_file.Stop.{Stop}
 use Rattle.fly_app.specs.declared.closure_of_file.Stop.TheVariants as stops
+use Rattle.fly_app.proofs.SingleTaskTyped.{typed-single_task, acyclic-single_task}
 use Rattle.fly_app.specs.Stops.{HasText, StopsReading, StopsAt}
 
 -- the first bytes of a file, where there is one
@@ -51,8 +52,10 @@ text_of_file told path bytes text is has = record {
   content = whole document_limit told path bytes is has.reads.within;
   bundle = has.bundle;
   reads = has.reads;
+  typed = typed-single_task has.bundle has.reads.form;
   closure = has.closure;
   compiled = has.compiled;
+  acyclic = acyclic-single_task has.bundle has.closure has.reads.form has.compiled;
   printed = has.printed;
 }
 

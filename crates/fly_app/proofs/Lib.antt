@@ -10,4 +10,4 @@ mod Telling
 mod RoundTrip
 mod Depths
 mod Documented
-mod FirstTyped
+mod SingleTaskTyped

@@ -32,7 +32,7 @@ use Rattle.fly_docs.specs.Interfaces.{names_of}
 use Rattle.fly_docs.specs.Closures.{task_of}
 use Rattle.fly_app.specs.Json.{Fields, with_field, with_fields, message, unless_empty, optional_message, optional_text, optional_list, optional_map, as_fields}
 use Rattle.fly_app.specs.Documents.{identifier_fields, variable_json, variable_entry, variables_fields, variables_json, interface_fields, interface_json, reference_fields, bound_json, binding_fields, binding_json, container_fields, task_fields, task_json, task_node_fields, node_fields, node_json, workflow_fields, workflow_json, bundle_fields, bundle_json, identifier_json}
-use Rattle.fly_app.specs.FirstForm.{AreIntegers, IsIntegerInterface, IsPlainTask, IsPlainNode, IsFirstForm}
+use Rattle.fly_app.specs.SingleTask.{AreIntegers, IsIntegerInterface, IsPlainTask, IsPlainNode, RunsOneTask}
 use Rattle.fly_app.specs.Candidate.{field, text_from, listed, list_from, names_in, keys_from, identifier_from, integer_named, variables_from, interface_from, bound_from, binding_from, task_from, node_from, workflow_from, bundle_from}
 
 -- ---- the fields of a message
@@ -240,7 +240,7 @@ node_back n h =
     λ j. record { id = id j; timeout_ms = timeout j; retries = retries j; inputs = inputs j; upstream = upstream j; target = target j }
 
 -- the bundle of the form that has this JSON is what is made of the JSON
-pub bundle_back : (b : Bundle) (t : Task) (w : Workflow) (n : Node) → IsFirstForm b t w n → bundle_from (bundle_json b) ≡ b
+pub bundle_back : (b : Bundle) (t : Task) (w : Workflow) (n : Node) → RunsOneTask b t w n → bundle_from (bundle_json b) ≡ b
 unfolding found beside
 bundle_back b t w n h =
     let fs = bundle_fields b in

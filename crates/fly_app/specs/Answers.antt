@@ -6,7 +6,9 @@ use Rattle.fly_ports.specs.Faults.{Rose}
 use Rattle.fly_ports.specs.Written.{WritesPart}
 use Rattle.fly_docs.specs.declared.workflow.Bundle.{Bundle}
 use Rattle.fly_docs.specs.declared.closure.Closure.{Closure}
+use Rattle.fly_docs.specs.Acyclic.{IsAcyclic}
 use Rattle.fly_docs.specs.Closures.{closure_of}
+use Rattle.fly_docs.specs.Typed.{IsTyped}
 use Rattle.fly_app.specs.declared.faults.DocKind.{DocKind}
 use Rattle.fly_app.specs.declared.faults.DocKind.TheVariants.{NotJson, TooLarge, NotBuilt, NoMemory}
 use Rattle.fly_app.specs.Commands.{IsCompile, IsFirstWrong}
@@ -70,14 +72,17 @@ pub record FailsToTell (old new : Option (List ℕ)) (line : List ℕ) : Type 0 
 
 -- ---- what stands behind an answer
 
--- a file at the path, the one that is told where contents are, of which this is the closure's text with a newline
+-- A file at the path, the one that is told where contents are. It is a well-typed bundle, whose primary workflow is acyclic, and this is
+-- the text of its closure with a newline.
 pub record HasClosure (told : Option Contents) (path text : List ℕ) : Type 0 where
   pub file : List ℕ
   pub content : IsContent told path file
   pub bundle : Bundle
   pub reads : Reads file bundle
+  pub typed : IsTyped bundle
   pub closure : Closure
   pub compiled : closure_of bundle ≡ Some closure
+  pub acyclic : IsAcyclic closure.primary
   pub printed : text ≡ closure_text closure ++ newline
 
 -- a file at the path, the one that is told where contents are, whose first fault is of this kind

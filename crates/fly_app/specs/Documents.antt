@@ -1,4 +1,4 @@
--- The JSON of bundles of the first form and of their closures, by the messages of flyteidl core (`core/tasks.proto`, `workflow.proto`,
+-- The JSON of bundles of one task and of their closures, by the messages of flyteidl core (`core/tasks.proto`, `workflow.proto`,
 -- `interface.proto`, `literals.proto`, `compiler.proto`). All variables are INTEGER there, and metadata, arguments and upstream ids are at
 -- their defaults, so their fields are left out.
 use Rattle.std.specs.Prelude.{ℕ, List, [], ◌∷◌, map, drop, slice_get, Option, option_map, Some, None, codes}

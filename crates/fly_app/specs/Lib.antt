@@ -1,7 +1,7 @@
 pub mod Json
 pub mod Documents
-pub mod FirstForm
-pub mod FirstClosure
+pub mod SingleTask
+pub mod SingleTaskClosure
 pub mod Reading
 pub mod Commands
 pub mod Answers

@@ -7,7 +7,7 @@ use Rattle.fly_docs.specs.declared.workflow.Bundle.{Bundle}
 use Rattle.fly_app.specs.declared.faults.DocKind.{DocKind}
 use Rattle.fly_app.specs.declared.faults.DocKind.TheVariants.{NotJson, TooLarge, NotBuilt, NoMemory}
 use Rattle.fly_app.specs.Documents.{bundle_json}
-use Rattle.fly_app.specs.FirstForm.{FirstForm}
+use Rattle.fly_app.specs.SingleTask.{IsSingleTaskBundle}
 
 -- the most bytes that a document has, 16 MiB
 abbrev pub document_limit : ℕ
@@ -21,7 +21,7 @@ pub record IsJson (bytes : List ℕ) (d : Data) : Type 0 where
 -- the bytes are the document of the bundle
 pub record Reads (bytes : List ℕ) (b : Bundle) : Type 0 where
   pub within : length bytes ≤ document_limit
-  pub form : FirstForm b
+  pub form : IsSingleTaskBundle b
   pub json : IsJson bytes (bundle_json b)
 
 -- the first rule that the bytes break

@@ -1,8 +1,8 @@
 ghost use Rattle.std.specs.Prelude.{◌≡◌, ◌≢◌, ℕ, List as Listed, [], ◌∷◌, IfOk, Some};
 ghost use Rattle.fly_docs.specs.Names.{start_node, end_node};
 ghost use Rattle.fly_docs.specs.Closures.{by_id, closure_of};
-ghost use Rattle.fly_app.specs.FirstForm.{FirstForm};
-ghost use Rattle.fly_app.specs.FirstClosure.{alone_connections, first_closure};
+ghost use Rattle.fly_app.specs.SingleTask.{IsSingleTaskBundle};
+ghost use Rattle.fly_app.specs.SingleTaskClosure.{alone_connections, single_task_closure};
 
 use fly_docs::{Bundle, Closure, Connections, END_NODE, Node, START_NODE, Task, Workflow};
 use fly_types::{List, NoMemory, Text};
@@ -97,7 +97,7 @@ fn closure(
 ) -> Result<Closure, NoMemory>
     requires start { node.now.id ≢ start_node }
     requires end { node.now.id ≢ end_node }
-    ensures { IfOk result (λ c. c ≡ first_closure task.now workflow.now node.now) }
+    ensures { IfOk result (λ c. c ≡ single_task_closure task.now workflow.now node.now) }
 {
     Ok(Closure {
         primary: workflow.copy(alloc)?,
@@ -109,7 +109,7 @@ fn closure(
 
 /// The closure of a bundle of the form that is read, which has no compile fault.
 pub fn compile(alloc: Global, bundle: &Bundle) -> Result<Closure, CompileFault>
-    requires { FirstForm bundle.now }
+    requires { IsSingleTaskBundle bundle.now }
     ensures { IfOk result (λ c. closure_of bundle.now ≡ Some c) }
 {
     let [task] = bundle.tasks.as_slice() else {

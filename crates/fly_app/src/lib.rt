@@ -7,7 +7,7 @@ mod commands;
 mod compile;
 mod documents;
 mod faults;
-mod first_form;
+mod single_task;
 mod message;
 mod printing;
 mod read_bundle;

@@ -4,13 +4,13 @@ ghost use Rattle.serde_json.specs.Read.{max_depth};
 ghost use Rattle.serde_json.specs.View.{view};
 ghost use Rattle.fly_docs.specs.declared.workflow.Bundle.{Bundle};
 ghost use Rattle.fly_app.specs.Documents.{bundle_json};
-ghost use Rattle.fly_app.specs.FirstForm.{FirstForm};
+ghost use Rattle.fly_app.specs.SingleTask.{IsSingleTaskBundle};
 ghost use Rattle.fly_app.specs.Reading.{Reads, FirstFault, place_of};
 
 use crate::candidate::candidate;
 use crate::documents::bundle_value;
 use crate::faults::{DOCUMENT_LIMIT, DocFault, DocKind};
-use crate::first_form::is_first_form;
+use crate::single_task::is_single_task_bundle;
 use fly_docs::Bundle;
 use fly_types::{NoMemory, Text};
 use serde_json::Value;
@@ -75,12 +75,12 @@ fn read(alloc: Global, bytes: &[u8]) -> Result<Bundle, DocKind>
 fn bundle_of(alloc: Global, value: &Value) -> Result<Option<Bundle>, NoMemory>
     requires { depth (view value.now) ≤ max_depth }
     ensures read { IfOk result
-        (λ o. IfSome o (λ b. FirstForm b × (view value.now ≡ bundle_json b))) }
-    ensures only { (b : Bundle) → FirstForm b → view value.now ≡ bundle_json b
+        (λ o. IfSome o (λ b. IsSingleTaskBundle b × (view value.now ≡ bundle_json b))) }
+    ensures only { (b : Bundle) → IsSingleTaskBundle b → view value.now ≡ bundle_json b
         → IfOk result (λ o. o ≡ Some b) }
 {
     let bundle = candidate(alloc, value)?;
-    let has_form = is_first_form(alloc, &bundle)?;
+    let has_form = is_single_task_bundle(alloc, &bundle)?;
     if !has_form {
         return Ok(None);
     }

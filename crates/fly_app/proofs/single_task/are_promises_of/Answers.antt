@@ -3,7 +3,7 @@ use Rattle.std.proofs.lemmas.Bool.{false≢true}
 use Rattle.std.proofs.lemmas.List.Elements.{AllWithin-more, at_read}
 use Rattle.fly_docs.specs.Interfaces.{names_of, promised_var}
 use Rattle.fly_docs.specs.declared.interface.Binding.{Binding}
-use Rattle.fly_app.proofs.first_form.are_promises_of.Goals as goal
+use Rattle.fly_app.proofs.single_task.are_promises_of.Goals as goal
 
 pub returns-then-not-is_promise_of : goal.returns-then-not-is_promise_of
 returns-then-not-is_promise_of c =

@@ -1,4 +1,4 @@
--- A bundle of the first form is typed, and its workflow acyclic.
+-- A bundle of one task is typed, and its workflow acyclic.
 use Rattle.std.proofs.Common.{◌≡◌, ◌⊎◌, ℕ, zero, suc, ◌<◌, List, [], ◌∷◌, ◌++◌, length, get_or, true, false, All, Contains, Some, unwrap_or, inl, inr, refl, sym, ap, subst, ◌∙◌, true≢false, append_assoc, append-nil, replicate, codes, arith}
 use Rattle.std.specs.Str.{bytes_eq}
 use Rattle.std.proofs.Math.ListN.{get_or-map}
@@ -24,8 +24,8 @@ use Rattle.fly_docs.specs.Edges.{needs}
 use Rattle.fly_docs.specs.Closures.{closure_of}
 use Rattle.fly_docs.specs.Typed.{AreDistinct, RunsTask, IsInput, IsOutput, FitsType, Binds, template, AsksFor, IsTypedNode, IsTypedWorkflow, IsTyped}
 use Rattle.fly_docs.specs.Acyclic.{IsEdge, IsWalk, IsAcyclic}
-use Rattle.fly_app.specs.FirstForm.{HasTemplate, BindsEach, IsFirstForm, FirstForm}
-use Rattle.fly_app.proofs.Closed.{closure_of-first}
+use Rattle.fly_app.specs.SingleTask.{HasTemplate, BindsEach, RunsOneTask, IsSingleTaskBundle}
+use Rattle.fly_app.proofs.Closed.{closure_of-single_task}
 
 -- ---- lists of one item
 
@@ -96,7 +96,7 @@ no_template inputs word none name h =
     found.4 ∙ append_assoc found.0 (template name found.2 found.3) found.1 ∙ sym (append_assoc found.0 (codes "{{") (rest ++ found.1)) in
     absurd (none (found.0, rest ++ found.1, opened))
 
-module _ (b : Bundle) (t : Task) (w : Workflow) (n : Node) (f : IsFirstForm b t w n) where
+module _ (b : Bundle) (t : Task) (w : Workflow) (n : Node) (f : RunsOneTask b t w n) where
   runs_task : RunsTask b n t
   runs_task = record { there = in_one b.tasks t f.tasks; named = sym f.target }
 
@@ -149,11 +149,11 @@ module _ (b : Bundle) (t : Task) (w : Workflow) (n : Node) (f : IsFirstForm b t 
   no_walk v [] u walk = no_edge v u walk
   no_walk v (x ∷ between) u walk = no_edge v x walk.0
 
-pub typed-first : (b : Bundle) → FirstForm b → IsTyped b
-typed-first b first = typed_bundle b first.0 first.1 first.2 first.3
+pub typed-single_task : (b : Bundle) → IsSingleTaskBundle b → IsTyped b
+typed-single_task b first = typed_bundle b first.0 first.1 first.2 first.3
 
-pub acyclic-first : (b : Bundle) (c : Closure) → FirstForm b → closure_of b ≡ Some c → IsAcyclic c.primary
-acyclic-first b c first compiled =
-    let own = closure_of-first b first.0 first.1 first.2 first.3 in
+pub acyclic-single_task : (b : Bundle) (c : Closure) → IsSingleTaskBundle b → closure_of b ≡ Some c → IsAcyclic c.primary
+acyclic-single_task b c first compiled =
+    let own = closure_of-single_task b first.0 first.1 first.2 first.3 in
     let same : first.1 ≡ c.primary = ap (λ o. (unwrap_or o c).primary) (sym own ∙ compiled) in
     subst IsAcyclic same (λ v walk. no_walk b first.0 first.1 first.2 first.3 v walk.0 v walk.1)

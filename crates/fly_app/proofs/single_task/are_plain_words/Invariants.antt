@@ -1,6 +1,6 @@
 use Rattle.std.specs.List.{AllWithin}
-use Rattle.fly_app.specs.FirstForm.{HasTemplate}
-use Rattle.fly_app.proofs.first_form.are_plain_words.Given as goal
+use Rattle.fly_app.specs.SingleTask.{HasTemplate}
+use Rattle.fly_app.proofs.single_task.are_plain_words.Given as goal
 
 -- no word so far has a template
 abbrev pub invariant-loop-word : goal.invariant-loop-word

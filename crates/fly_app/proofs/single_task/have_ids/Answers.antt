@@ -3,7 +3,7 @@ use Rattle.std.proofs.lemmas.List.Elements.{All-map}
 use Rattle.fly_types.specs.declared.literals.Variable.{Variable}
 use Rattle.fly_docs.specs.Names.{IsId}
 use Rattle.fly_app.proofs.Orders.{ids_of_names}
-use Rattle.fly_app.proofs.first_form.have_ids.Goals as goal
+use Rattle.fly_app.proofs.single_task.have_ids.Goals as goal
 
 pub returns : goal.returns
 returns c =

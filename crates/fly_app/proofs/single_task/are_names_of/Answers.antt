@@ -1,7 +1,7 @@
 use Rattle.std.proofs.Common.{arith}
 use Rattle.std.proofs.lemmas.Bool.{false≢true}
 use Rattle.fly_app.proofs.Orders.{name_differs, names_more}
-use Rattle.fly_app.proofs.first_form.are_names_of.Goals as goal
+use Rattle.fly_app.proofs.single_task.are_names_of.Goals as goal
 
 pub returns-then-ne : goal.returns-then-ne
 returns-then-ne c = (

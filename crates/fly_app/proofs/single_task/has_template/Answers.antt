@@ -1,6 +1,6 @@
 use Rattle.std.proofs.Common.{append_assoc, codes, ◌∙◌, sym}
 use Rattle.std.proofs.lemmas.Str.Pattern.{contains_text}
-use Rattle.fly_app.proofs.first_form.has_template.Goals as goal
+use Rattle.fly_app.proofs.single_task.has_template.Goals as goal
 
 pub returns : goal.returns
 returns c =

@@ -3,7 +3,7 @@ use Rattle.std.proofs.lemmas.List.{take_all}
 use Rattle.std.specs.List.Sorted.{IsPermutation}
 use Rattle.fly_docs.specs.Interfaces.{bound_names, names_of}
 use Rattle.fly_app.proofs.Sorting.{sorted_names}
-use Rattle.fly_app.proofs.first_form.are_bound_once.Goals as goal
+use Rattle.fly_app.proofs.single_task.are_bound_once.Goals as goal
 
 pub returns : goal.returns
 returns c =

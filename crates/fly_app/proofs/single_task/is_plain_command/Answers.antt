@@ -1,6 +1,6 @@
 use Rattle.std.proofs.Common.{◌≡◌, [], sym, ◌∙◌, rules}
 use Rattle.std.proofs.lemmas.Bool.{false≢true}
-use Rattle.fly_app.proofs.first_form.is_plain_command.Goals as goal
+use Rattle.fly_app.proofs.single_task.is_plain_command.Goals as goal
 
 pub returns : goal.returns
 returns c =

@@ -1,8 +1,8 @@
 use Rattle.std.proofs.Common.{◌≡◌, ◌↔◌, ◌∙◌, IsTrue, sym, rules}
 use Rattle.std.proofs.lemmas.Bool.{false≢true}
 use Rattle.std.proofs.lemmas.Result.{IfOk-weaker}
-use Rattle.fly_app.specs.FirstForm.{BindsEach, IsFirstForm}
-use Rattle.fly_app.proofs.first_form.runs_once.Goals as goal
+use Rattle.fly_app.specs.SingleTask.{BindsEach, RunsOneTask}
+use Rattle.fly_app.proofs.single_task.runs_once.Goals as goal
 
 pub returns-then-not-inputs_bound : goal.returns-then-not-inputs_bound
 returns-then-not-inputs_bound c =
@@ -21,7 +21,7 @@ returns c =
     let primary : b.primary ≡ w.id = search rules in
     let inputs = (rw (c.as_slice.ensures, c.as_slice-2.ensures, c.as_slice-3.ensures) at c.in_ok-inputs_bound.ensures).0 c.if-not-inputs_bound.false in
     let outputs = rw (c.as_slice-4.ensures, c.as_str.ensures, c.as_slice-5.ensures, c.as_slice-6.ensures) at c.binds_each-2.ensures in
-    IfOk-weaker c.binds_each-2.result (λ r. IsTrue r ↔ BindsEach w.interface.outputs n.id t.interface.outputs w.outputs) (λ r. IsTrue r ↔ IsFirstForm b t w n)
+    IfOk-weaker c.binds_each-2.result (λ r. IsTrue r ↔ BindsEach w.interface.outputs n.id t.interface.outputs w.outputs) (λ r. IsTrue r ↔ RunsOneTask b t w n)
     (λ r says. (
       λ e. record {
         tasks = c.requires.tasks;

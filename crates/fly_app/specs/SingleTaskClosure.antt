@@ -1,4 +1,4 @@
--- The closure of a workflow of one node. Private contracts alone cite it: it is `closure_of` at bundles of the first form.
+-- The closure of a workflow of one node. Private contracts alone cite it: it is `closure_of` at bundles of one task.
 use Rattle.std.specs.Prelude.{ℕ, List, [], ◌∷◌}
 use Rattle.fly_docs.specs.declared.task.Task.{Task}
 use Rattle.fly_docs.specs.declared.workflow.Node.{Node}
@@ -15,5 +15,5 @@ alone_connections id = record {
   downstream = by_id ((start_node, id ∷ []) ∷ (id, end_node ∷ []) ∷ []);
 }
 
-abbrev pub first_closure : Task → Workflow → Node → Closure
-first_closure t w n = record { primary = w; subs = []; tasks = t ∷ []; connections = alone_connections n.id ∷ [] }
+abbrev pub single_task_closure : Task → Workflow → Node → Closure
+single_task_closure t w n = record { primary = w; subs = []; tasks = t ∷ []; connections = alone_connections n.id ∷ [] }

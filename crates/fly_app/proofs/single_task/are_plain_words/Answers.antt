@@ -1,8 +1,8 @@
 use Rattle.std.proofs.Common.{ℕ, List, refl, sym, subst, ◌∙◌}
 use Rattle.std.proofs.lemmas.Bool.{false≢true}
 use Rattle.std.proofs.lemmas.List.Elements.{AllWithin-none, AllWithin-more, AllWithin-upto, All-from_all_within, at_read}
-use Rattle.fly_app.specs.FirstForm.{HasTemplate}
-use Rattle.fly_app.proofs.first_form.are_plain_words.Goals as goal
+use Rattle.fly_app.specs.SingleTask.{HasTemplate}
+use Rattle.fly_app.proofs.single_task.are_plain_words.Goals as goal
 
 abbrev IsPlain : List ℕ → Type 0
 IsPlain word = HasTemplate word → ⊥

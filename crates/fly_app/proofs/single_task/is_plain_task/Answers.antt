@@ -1,5 +1,5 @@
 use Rattle.std.proofs.Common.{rules}
-use Rattle.fly_app.proofs.first_form.is_plain_task.Goals as goal
+use Rattle.fly_app.proofs.single_task.is_plain_task.Goals as goal
 
 pub returns : goal.returns
 returns c =

@@ -6,7 +6,7 @@ ghost use Rattle.fly_docs.specs.Names.{IsId, IsIdentifier};
 ghost use Rattle.fly_docs.specs.Interfaces.{names_of, bound_names, AreInOrder, promised_node, promised_var};
 ghost use Rattle.fly_docs.specs.declared.interface.Binding as binding;
 ghost use Rattle.fly_docs.specs.Closures.{task_of};
-ghost use Rattle.fly_app.specs.FirstForm as form;
+ghost use Rattle.fly_app.specs.SingleTask as form;
 
 use fly_docs::{
     Binding, Bound, Bundle, END_NODE, Interface, Node, START_NODE, Target, Task, Workflow,
@@ -16,8 +16,8 @@ use fly_types::{List, LiteralType, NoMemory, Simple, Text, Variable};
 use std::alloc::Global;
 
 /// Whether a bundle can be read.
-pub fn is_first_form(alloc: Global, bundle: &Bundle) -> Result<bool, NoMemory>
-    ensures { IfOk result (λ t. IsTrue t ↔ form.FirstForm bundle.now) }
+pub fn is_single_task_bundle(alloc: Global, bundle: &Bundle) -> Result<bool, NoMemory>
+    ensures { IfOk result (λ t. IsTrue t ↔ form.IsSingleTaskBundle bundle.now) }
 {
     let Some(task) = only(&bundle.tasks) else {
         return Ok(false);
@@ -53,7 +53,7 @@ fn runs_once(
     requires workflows { bundle.now.workflows ≡ workflow.now ∷ [] }
     requires nodes { workflow.now.nodes ≡ node.now ∷ [] }
     ensures { IfOk result
-        (λ t. IsTrue t ↔ form.IsFirstForm bundle.now task.now workflow.now node.now) }
+        (λ t. IsTrue t ↔ form.RunsOneTask bundle.now task.now workflow.now node.now) }
 {
     if bundle.primary != workflow.id
         || !is_plain_task(task)

@@ -58,7 +58,7 @@ pub record BindsEach (variables : List Variable) (node : List ℕ) (outputs : Li
   pub there : All (λ (b : Binding). Contains (names_of outputs) (promised_var b.bound)) bindings
 
 -- the bundle is the task t and the workflow w, whose one node n runs the task
-pub record IsFirstForm (b : Bundle) (t : Task) (w : Workflow) (n : Node) : Type 0 where
+pub record RunsOneTask (b : Bundle) (t : Task) (w : Workflow) (n : Node) : Type 0 where
   pub tasks : b.tasks ≡ t ∷ []
   pub workflows : b.workflows ≡ w ∷ []
   pub primary : b.primary ≡ w.id
@@ -73,9 +73,9 @@ pub record IsFirstForm (b : Bundle) (t : Task) (w : Workflow) (n : Node) : Type 
   pub outputs : BindsEach w.interface.outputs n.id t.interface.outputs w.outputs
 
 -- some task, workflow and node are the bundle's
-abbrev pub FirstForm : Bundle → Type 0
-FirstForm b = (t : Task) × (w : Workflow) × (n : Node) × IsFirstForm b t w n
+abbrev pub IsSingleTaskBundle : Bundle → Type 0
+IsSingleTaskBundle b = (t : Task) × (w : Workflow) × (n : Node) × RunsOneTask b t w n
 
 -- the closure of such a bundle
-abbrev pub FirstClosure : Closure → Type 0
-FirstClosure c = (b : Bundle) × FirstForm b × (closure_of b ≡ Some c)
+abbrev pub IsSingleTaskClosure : Closure → Type 0
+IsSingleTaskClosure c = (b : Bundle) × IsSingleTaskBundle b × (closure_of b ≡ Some c)
