@@ -1,5 +1,5 @@
 -- The closure of a bundle of one task.
-use Rattle.std.proofs.Common.{◌≡◌, ◌≢◌, ℕ, List, [], ◌∷◌, get_or, map, filter, Bool, true, false, not, ◌||◌, ◌&&◌, cond, Option, Some, Ordering, Less, Equal, Greater, is_eq, refl, sym, ap, subst, ◌∙◌, true≢false}
+use Rattle.std.proofs.Common.{◌≡◌, ◌≢◌, ℕ, List, [], ◌∷◌, get_or, Bool, true, false, Some, Equal, is_eq, refl, sym, ap, ◌∙◌}
 use Rattle.std.specs.List.{list_any, AllByRecursion}
 use Rattle.std.specs.Str.{bytes_eq}
 use Rattle.std.specs.Ordering.{nat_cmp}
@@ -13,12 +13,10 @@ use Rattle.fly_docs.specs.declared.task.Task.{Task}
 use Rattle.fly_docs.specs.declared.workflow.Node.{Node}
 use Rattle.fly_docs.specs.declared.workflow.Workflow.{Workflow}
 use Rattle.fly_docs.specs.declared.workflow.Bundle.{Bundle}
-use Rattle.fly_docs.specs.declared.closure.Connections.{Connections}
-use Rattle.fly_docs.specs.declared.closure.Closure.{Closure}
-use Rattle.fly_docs.specs.Names.{start_node, end_node}
+use Rattle.fly_docs.specs.Names.{start_node}
 use Rattle.fly_docs.specs.Interfaces.{promised_node}
 use Rattle.fly_docs.specs.Edges.{needs, is_same}
-use Rattle.fly_docs.specs.Closures.{by_id, task_of, closure_of}
+use Rattle.fly_docs.specs.Closures.{closure_of}
 use Rattle.fly_app.specs.SingleTask.{RunsOneTask, IsSingleTaskBundle}
 use Rattle.fly_app.specs.SingleTaskClosure.{single_task_closure}
 

@@ -1,9 +1,9 @@
 -- No document has a number, so none has a float.
-use Rattle.std.proofs.Common.{◌≡◌, ℕ, List, [], ◌∷◌, map, drop, slice_get, Bool, true, false, ◌||◌, Option, option_map, Some, None, Ordering, Less, Equal, Greater, codes, refl, zero, suc}
+use Rattle.std.proofs.Common.{◌≡◌, ℕ, List, [], ◌∷◌, map, drop, slice_get, Bool, true, false, ◌||◌, Option, option_map, Some, None, Ordering, Less, Equal, Greater, codes, refl}
 use Rattle.std.specs.List.{AllByRecursion, zip}
 use Rattle.std.specs.Ordering.{match_ordering, nat_cmp}
 use Rattle.std.specs.Cmp.Lexicographic.{slice_cmp}
-use Rattle.serde_json.specs.Data.{Data, string, array, object, Members, no_members, member, put}
+use Rattle.serde_json.specs.Data.{Data, string, Members, no_members, member, put}
 use Rattle.serde_json.specs.Written.{has_float, items_have_float, members_have_float}
 use Rattle.serde_json.specs.View.{items_of}
 use Rattle.fly_types.specs.declared.literals.Variable.{Variable}
@@ -20,7 +20,7 @@ use Rattle.fly_docs.specs.declared.closure.Connections.{Connections}
 use Rattle.fly_docs.specs.declared.closure.Closure.{Closure}
 use Rattle.fly_docs.specs.Closures.{task_of}
 use Rattle.fly_app.specs.Json.{with_field, with_fields, message, unless_empty, optional_message, optional_text, optional_list, optional_map, as_fields}
-use Rattle.fly_app.specs.Documents.{identifier_fields, variable_entry, variables_fields, interface_fields, binding_fields, container_fields, task_fields, task_node_fields, node_fields, workflow_fields, bundle_fields, id_list_fields, connections_fields, compiled_workflow_fields, compiled_task_fields, closure_fields, identifier_json, task_id_json, workflow_id_json, variable_json, variables_json, interface_json, bound_json, binding_json, task_json, node_json, workflow_json, bundle_json, id_list_entry, id_lists_json, connections_json, compiled_workflow_json, compiled_workflows, compiled_task_json, closure_json}
+use Rattle.fly_app.specs.Documents.{identifier_fields, variable_entry, variables_fields, interface_fields, binding_fields, container_fields, task_fields, task_node_fields, node_fields, workflow_fields, bundle_fields, id_list_fields, connections_fields, compiled_workflow_fields, compiled_task_fields, closure_fields, identifier_json, variables_json, interface_json, bound_json, binding_json, task_json, node_json, workflow_json, bundle_json, id_list_entry, connections_json, compiled_workflow_json, compiled_task_json, closure_json}
 
 -- ---- messages
 

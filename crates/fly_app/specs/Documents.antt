@@ -1,7 +1,7 @@
 -- The JSON of bundles of one task and of their closures, by the messages of flyteidl core (`core/tasks.proto`, `workflow.proto`,
 -- `interface.proto`, `literals.proto`, `compiler.proto`). All variables are INTEGER there, and metadata, arguments and upstream ids are at
 -- their defaults, so their fields are left out.
-use Rattle.std.specs.Prelude.{ℕ, List, [], ◌∷◌, map, drop, slice_get, Option, option_map, Some, None, codes}
+use Rattle.std.specs.Prelude.{ℕ, List, [], ◌∷◌, map, drop, slice_get, Option, option_map, Some, codes}
 use Rattle.std.specs.List.{zip}
 use Rattle.serde_json.specs.Written.{compact_text}
 use Rattle.serde_json.specs.Data.{Data, string}

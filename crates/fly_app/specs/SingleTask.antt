@@ -1,5 +1,5 @@
 -- The bundles that are read: one task over INTEGER, and one workflow that runs it once.
-use Rattle.std.specs.Prelude.{◌≡◌, ◌≢◌, ℕ, List, [], ◌∷◌, ◌++◌, Bool, false, map, All, Contains, Some, codes}
+use Rattle.std.specs.Prelude.{◌≡◌, ◌≢◌, ℕ, List, [], ◌∷◌, ◌++◌, false, All, Contains, Some, codes}
 use Rattle.std.specs.List.Sorted.{IsPermutation}
 use Rattle.fly_types.specs.declared.kinds.LiteralType.TheVariants as types
 use Rattle.fly_types.specs.declared.kinds.Simple.TheVariants as simple

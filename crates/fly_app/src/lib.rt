@@ -7,10 +7,10 @@ mod commands;
 mod compile;
 mod documents;
 mod faults;
-mod single_task;
 mod message;
 mod printing;
 mod read_bundle;
+mod single_task;
 mod status;
 #[cfg(test)]
 mod tests;

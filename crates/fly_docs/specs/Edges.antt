@@ -1,5 +1,5 @@
 -- Which nodes of a workflow go before which (`inputs` and `upstream_node_ids` of Node, `core/workflow.proto` of flyteidl).
-use Rattle.std.specs.Prelude.{ℕ, List, Bool, ◌||◌, ◌&&◌}
+use Rattle.std.specs.Prelude.{Bool, ◌||◌, ◌&&◌}
 use Rattle.std.specs.List.{list_any}
 use Rattle.std.specs.Str.{bytes_eq}
 use Rattle.fly_docs.specs.Interfaces.{promised_node}

@@ -1,5 +1,5 @@
 -- Which texts are ids and fields of identifiers (`core/identifier.proto` of flyteidl). The limits are this project's own.
-use Rattle.std.specs.Prelude.{◌≡◌, ℕ, ◌≤◌, ◌==◌, ◌||◌, Bool, true, List, [], length, codes, nat_le, ◌&&◌}
+use Rattle.std.specs.Prelude.{ℕ, ◌≤◌, ◌==◌, ◌||◌, Bool, List, length, codes, nat_le, ◌&&◌}
 use Rattle.std.specs.List.{AllPass}
 use Rattle.std.specs.Char.{is_ascii_alphanumeric}
 use Rattle.fly_docs.specs.declared.names.Identifier.{Identifier}

@@ -1,4 +1,3 @@
-use Rattle.std.proofs.Common.{rules}
 use Rattle.fly_app.proofs.FileReads.{answered_text, answered_stop}
 use Rattle.fly_app.proofs.closure_of_file.closure_of_file.Goals as goal
 

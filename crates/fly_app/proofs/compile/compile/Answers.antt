@@ -1,4 +1,4 @@
-use Rattle.std.proofs.Common.{rules, ap, Some, sym, ◌∙◌}
+use Rattle.std.proofs.Common.{ap, Some, sym, ◌∙◌}
 use Rattle.fly_app.proofs.Closed.{closure_of-shown}
 use Rattle.fly_app.proofs.compile.compile.Goals as goal
 

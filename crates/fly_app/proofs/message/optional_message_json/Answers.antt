@@ -1,4 +1,4 @@
-use Rattle.std.proofs.Common.{rules, true≢false, sym}
+use Rattle.std.proofs.Common.{true≢false, sym}
 use Rattle.serde_json.proofs.Views.{view-Object}
 use Rattle.fly_app.proofs.Messages.{unless_empty-some}
 use Rattle.fly_app.proofs.message.optional_message_json.Goals as goal
