@@ -3,6 +3,7 @@ pub mod Lists
 pub mod LiteralTells
 pub mod Member
 pub mod Readings
+pub mod SoundLemmas
 pub mod Tells
 pub mod TreeTells
 pub mod TypeTells

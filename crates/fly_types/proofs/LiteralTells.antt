@@ -62,10 +62,10 @@ held_from P (Literal-F.Binary value tag) = tt
 held_from P (Literal-F.Error node message) = tt
 held_from P (Literal-F.Generic tree) = tt
 
-abbrev IsSoundLayer : LiteralLayer → Type 0
+abbrev pub IsSoundLayer : LiteralLayer → Type 0
 IsSoundLayer z = IsLiteralLayerSound z × LiteralsHeld HasSoundParts z
 
-sound_layer : (l : Literal) → HasSoundParts l → IsSoundLayer (out-Literal l)
+pub sound_layer : (l : Literal) → HasSoundParts l → IsSoundLayer (out-Literal l)
 sound_layer l p =
     let h = every_held-Literal IsLiteralLayerSound l p in
     (every_here-Literal IsLiteralLayerSound l p, subst (LiteralsHeld HasSoundParts) h.1 (held_from HasSoundParts h.0))

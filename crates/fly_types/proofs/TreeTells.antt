@@ -40,10 +40,10 @@ held_from P (Tree-F.Text text) = tt
 held_from P (Tree-F.List es) = list_held P es
 held_from P (Tree-F.Object ms) = members_held P ms
 
-abbrev IsSoundLayer : TreeLayer → Type 0
+abbrev pub IsSoundLayer : TreeLayer → Type 0
 IsSoundLayer z = IsTreeLayerSound z × TreesHeld HasSoundTreeParts z
 
-sound_layer : (t : Tree) → HasSoundTreeParts t → IsSoundLayer (out-Tree t)
+pub sound_layer : (t : Tree) → HasSoundTreeParts t → IsSoundLayer (out-Tree t)
 sound_layer t p =
     let h = every_held-Tree IsTreeLayerSound t p in
     (every_here-Tree IsTreeLayerSound t p, subst (TreesHeld HasSoundTreeParts) h.1 (held_from HasSoundTreeParts h.0))

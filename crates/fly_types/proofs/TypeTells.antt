@@ -69,10 +69,10 @@ held_from P (LiteralType-F.Blob form) = tt
 held_from P (LiteralType-F.Enum values) = tt
 held_from P (LiteralType-F.Union es) = list_held P es
 
-abbrev IsSoundLayer : TypeLayer → Type 0
+abbrev pub IsSoundLayer : TypeLayer → Type 0
 IsSoundLayer z = IsTypeLayerSound z × TypesHeld HasSoundTypeParts z
 
-sound_layer : (t : LiteralType) → HasSoundTypeParts t → IsSoundLayer (out-LiteralType t)
+pub sound_layer : (t : LiteralType) → HasSoundTypeParts t → IsSoundLayer (out-LiteralType t)
 sound_layer t p =
     let h = every_held-LiteralType IsTypeLayerSound t p in
     (every_here-LiteralType IsTypeLayerSound t p, subst (TypesHeld HasSoundTypeParts) h.1 (held_from HasSoundTypeParts h.0))

@@ -1,4 +1,4 @@
-use Rattle.std.proofs.Common.{◌≤◌, refl, sym, ◌∙◌, ap, subst, arith}
+use Rattle.std.proofs.Common.{◌≤◌, sym, ◌∙◌, arith}
 use Rattle.fly_types.specs.Levels.{type_levels}
 use Rattle.fly_types.proofs.Lists.{largest_at, largest_more}
 use Rattle.fly_types.proofs.kinds.+levels.Goals as goal
