@@ -1,5 +1,6 @@
 //! Values that the tests build, and the tests themselves.
 mod bytes;
+mod holders;
 mod members;
 
 use crate::{BlobType, Boxed, Bytes, List, Literal, LiteralType, NoMemory, Simple, Text, Tree};
@@ -95,4 +96,24 @@ fn tree_list(alloc: Global) -> Result<Tree, NoMemory> {
 fn object(alloc: Global, first: Tree, second: Tree) -> Result<Tree, NoMemory> {
     let members = vec![in alloc; (text(alloc, "a")?, first), (text(alloc, "b")?, second)]?;
     Ok(Tree::Object(List::from_vec(members)))
+}
+
+fn scalar(alloc: Global, simple: Simple) -> Result<Literal, NoMemory> {
+    match simple {
+        Simple::None => Ok(Literal::None),
+        Simple::Integer => Ok(Literal::Integer(0)),
+        Simple::Text => Ok(Literal::Text(text(alloc, "t")?)),
+        Simple::Boolean => Ok(Literal::Boolean(false)),
+        Simple::Datetime => Ok(Literal::Datetime {
+            seconds: 0,
+            nanos: 0,
+        }),
+        Simple::Duration => Ok(Literal::Duration {
+            seconds: 0,
+            nanos: 0,
+        }),
+        Simple::Binary => binary(alloc),
+        Simple::Error => error(alloc),
+        Simple::Struct => Ok(Literal::Generic(object(alloc, Tree::Null, Tree::Null)?)),
+    }
 }

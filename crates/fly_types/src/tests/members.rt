@@ -1,6 +1,6 @@
 //! Which literals are of which type, with near misses, and copies that equal what they copy.
 use super::{
-    SIMPLES, binary, blob, collection, collection_type, csv, error, map, map_type, object, text,
+    SIMPLES, binary, blob, collection, collection_type, csv, map, map_type, object, scalar, text,
     text_or_none, texts, tree_list, union,
 };
 use crate::{
@@ -8,26 +8,6 @@ use crate::{
 };
 use std::alloc::Global;
 use std::test::Fail;
-
-fn scalar(alloc: Global, simple: Simple) -> Result<Literal, NoMemory> {
-    match simple {
-        Simple::None => Ok(Literal::None),
-        Simple::Integer => Ok(Literal::Integer(0)),
-        Simple::Text => Ok(Literal::Text(text(alloc, "t")?)),
-        Simple::Boolean => Ok(Literal::Boolean(false)),
-        Simple::Datetime => Ok(Literal::Datetime {
-            seconds: 0,
-            nanos: 0,
-        }),
-        Simple::Duration => Ok(Literal::Duration {
-            seconds: 0,
-            nanos: 0,
-        }),
-        Simple::Binary => binary(alloc),
-        Simple::Error => error(alloc),
-        Simple::Struct => Ok(Literal::Generic(object(alloc, Tree::Null, Tree::Null)?)),
-    }
-}
 
 #[test]
 fn a_scalar_is_of_its_own_simple_type_alone(rt: HostRuntime) -> Result<(), Fail> {
