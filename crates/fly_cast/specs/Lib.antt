@@ -1,0 +1,3 @@
+pub mod Castable
+pub mod Convert
+pub mod Fit

@@ -1,0 +1,6 @@
+//! Which literal types cast to which, what a literal becomes there, and how plain values fit a type.
+#![tactic(auto)]
+
+mod castable;
+
+pub use castable::is_castable;
