@@ -1,11 +1,15 @@
 -- The levels of a type and of its parts.
-use Rattle.std.proofs.Common.{◌≡◌, ℕ, zero, suc, ◌+◌, ◌<◌, ◌≤◌, max, List, [], ◌∷◌, map, length, get_or, refl, sym, ◌∙◌, ap, subst, arith}
+use Rattle.std.proofs.Common.{◌≡◌, ℕ, zero, suc, ◌+◌, ◌<◌, ◌≤◌, max, List, [], ◌∷◌, map, length, get_or, refl, sym, ◌∙◌, ap, subst, arith, inl, inr, Bool, filter, Some}
 use Rattle.std.specs.List.{AllByRecursion as Each}
 use Rattle.fly_types.specs.declared.kinds.LiteralType.{LiteralType, out-LiteralType, roll-LiteralType}
 use Rattle.fly_types.specs.declared.kinds.LiteralType.TheOpen.{LiteralType-F}
 use Rattle.fly_types.specs.declared.kinds.LiteralType.TheViews.{roll-out-LiteralType}
 use Rattle.fly_types.specs.declared.kinds.LiteralType.TheFolds.{fold-roll-LiteralType}
+use Rattle.fly_types.specs.declared.literals.Literal.{Literal}
 use Rattle.fly_types.specs.Layer.{TypeLayer}
+use Rattle.fly_types.specs.Membership.{IsMember, IsVariant}
+use Rattle.fly_cast.specs.Castable.{only}
+use Rattle.fly_cast.proofs.Lists.{only-has}
 use Rattle.fly_types.specs.Sound.{type_levels, type_levels_by, largest}
 
 abbrev pub layer_levels : TypeLayer → ℕ
@@ -45,3 +49,18 @@ pub variant-levels : (ts : List LiteralType) (i : ℕ) (t : LiteralType) → i <
 variant-levels [] i t lt is = absurd (omega arith)
 variant-levels (s ∷ ts) zero t lt is = let e : type_levels t ≡ type_levels s = ap type_levels is in omega arith
 variant-levels (s ∷ ts) (suc i) t lt is = let h : type_levels t ≤ largest (map type_levels ts) = variant-levels ts i t (omega arith) is in omega arith
+
+-- a variant of a union, under which a value stands
+pub variant-of : (ts : List LiteralType) (variant : LiteralType) (value : Literal) → IsVariant ts variant value
+    → (type_levels variant ≤ largest (map type_levels ts)) × IsMember variant value
+variant-of [] variant value h = absurd h
+variant-of (t ∷ ts) variant value (inl h) =
+    let e : type_levels variant ≡ type_levels t = ap type_levels h.0 in
+    (omega arith, subst (λ s. IsMember s value) (sym h.0) h.1)
+variant-of (t ∷ ts) variant value (inr h) = let rest = variant-of ts variant value h in (omega (arith, rest.0), rest.1)
+
+-- the variant that alone passes a test
+pub only-levels : (p : LiteralType → Bool) (ts : List LiteralType) (t : LiteralType) → only (filter p ts) ≡ Some t
+    → type_levels t ≤ largest (map type_levels ts)
+only-levels p ts t e =
+    only-has (λ s. type_levels s ≤ largest (map type_levels ts)) p ts t e (variants-below (largest (map type_levels ts)) ts (omega arith))

@@ -1,3 +1,2 @@
 pub mod Castable
 pub mod Convert
-pub mod Fit

@@ -2,5 +2,7 @@
 #![tactic(auto)]
 
 mod castable;
+mod conversion;
 
 pub use castable::is_castable;
+pub use conversion::{ConvertFault, convert};
