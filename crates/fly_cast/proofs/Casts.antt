@@ -6,7 +6,7 @@ use Rattle.fly_types.specs.declared.kinds.LiteralType.{LiteralType, out-LiteralT
 use Rattle.fly_types.specs.declared.kinds.LiteralType.TheOpen.{LiteralType-F}
 use Rattle.fly_types.specs.Layer.{TypeLayer}
 use Rattle.fly_types.specs.Same.{same_type, answers_same_type}
-use Rattle.fly_types.specs.Sound.{type_levels}
+use Rattle.fly_types.specs.Levels.{type_levels}
 use Rattle.fly_cast.specs.Castable.{only, enum_casts, form_casts, castable_within, castable}
 use Rattle.fly_cast.proofs.Levels.{layer_levels, type_levels-out, type_levels-positive, variants-below}
 use Rattle.fly_cast.proofs.Lists.{list_all-same, filter-same, each-map}

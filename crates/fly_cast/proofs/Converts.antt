@@ -11,7 +11,7 @@ use Rattle.fly_types.specs.declared.literals.Literal.TheVariants as literal
 use Rattle.fly_types.specs.Layer.{TypeLayer, LiteralLayer}
 use Rattle.fly_types.specs.Membership.{IsMember, IsCollectionOf, IsMapOf, IsUnionWhere, IsVariant}
 use Rattle.fly_types.specs.Same.{same_type, answers_same_type}
-use Rattle.fly_types.specs.Sound.{type_levels, largest}
+use Rattle.fly_types.specs.Levels.{type_levels, largest}
 use Rattle.fly_types.proofs.Member.{IsMemberAt, IsMember-out}
 use Rattle.fly_cast.specs.Castable.{only, castable}
 use Rattle.fly_cast.specs.declared.conversion.ConvertFault.{ConvertFault}

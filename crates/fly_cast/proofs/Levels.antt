@@ -10,7 +10,7 @@ use Rattle.fly_types.specs.Layer.{TypeLayer}
 use Rattle.fly_types.specs.Membership.{IsMember, IsVariant}
 use Rattle.fly_cast.specs.Castable.{only}
 use Rattle.fly_cast.proofs.Lists.{only-has}
-use Rattle.fly_types.specs.Sound.{type_levels, type_levels_by, largest}
+use Rattle.fly_types.specs.Levels.{type_levels, type_levels_by, largest}
 
 abbrev pub layer_levels : TypeLayer → ℕ
 layer_levels (LiteralType-F.Collection element) = 1 + type_levels element

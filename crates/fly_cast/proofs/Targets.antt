@@ -16,7 +16,7 @@ use Rattle.fly_types.specs.declared.literals.Literal.TheViews as view
 use Rattle.fly_types.specs.Layer.{TypeLayer, LiteralLayer}
 use Rattle.fly_types.specs.Membership.{IsMember, IsCollectionOf, IsMapOf, IsUnionWhere, IsTextAmong, IsVariant, Some_of, simple_type}
 use Rattle.fly_types.specs.Same.{same_type, same_type-Decides}
-use Rattle.fly_types.specs.Sound.{type_levels, largest}
+use Rattle.fly_types.specs.Levels.{type_levels, largest}
 use Rattle.fly_types.proofs.Member.{IsMemberAt, IsMember-out}
 use Rattle.fly_cast.specs.Castable.{is_among, only, enum_casts, form_casts, castable}
 use Rattle.fly_cast.specs.declared.conversion.ConvertFault.{ConvertFault}

@@ -8,7 +8,7 @@ use Rattle.fly_types.specs.declared.kinds.LiteralType.{LiteralType, out-LiteralT
 use Rattle.fly_types.specs.declared.kinds.LiteralType.TheOpen.{LiteralType-F}
 use Rattle.fly_types.specs.Layer.{TypeLayer}
 use Rattle.fly_types.specs.Same.{same_type}
-use Rattle.fly_types.specs.Sound.{type_levels}
+use Rattle.fly_types.specs.Levels.{type_levels}
 
 -- the text is a value of the enum
 abbrev pub is_among : List Text → Text → Bool

@@ -9,7 +9,7 @@ use Rattle.fly_types.specs.declared.literals.Literal.TheOpen.{Literal-F}
 use Rattle.fly_types.specs.declared.literals.Literal.TheVariants as literal
 use Rattle.fly_types.specs.Layer.{TypeLayer, LiteralLayer}
 use Rattle.fly_types.specs.Same.{same_type}
-use Rattle.fly_types.specs.Sound.{type_levels}
+use Rattle.fly_types.specs.Levels.{type_levels}
 use Rattle.fly_cast.specs.declared.conversion.ConvertFault.{ConvertFault}
 use Rattle.fly_cast.specs.declared.conversion.ConvertFault.TheVariants as fault
 use Rattle.fly_cast.specs.Castable.{is_among, only, castable}

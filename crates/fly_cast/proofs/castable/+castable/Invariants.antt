@@ -2,7 +2,7 @@ use Rattle.std.proofs.Common.{◌≡◌, ◌+◌, ◌*◌, map, true, take}
 use Rattle.std.specs.Prelude.{filter}
 use Rattle.std.specs.List.{list_all}
 use Rattle.std.specs.Option.{option_copied, option_to_list}
-use Rattle.fly_types.specs.Sound.{type_levels, largest}
+use Rattle.fly_types.specs.Levels.{type_levels, largest}
 use Rattle.fly_cast.specs.Castable.{castable}
 use Rattle.fly_cast.proofs.castable.+castable.Given as goal
 

@@ -8,7 +8,7 @@ use Rattle.fly_types.specs.declared.literals.Literal.{Literal, out-Literal}
 use Rattle.fly_types.specs.declared.literals.Literal.TheVariants as made
 use Rattle.fly_types.specs.declared.literals.Literal.TheViews as literal
 use Rattle.fly_types.specs.Membership.{IsMember}
-use Rattle.fly_types.specs.Sound.{type_levels}
+use Rattle.fly_types.specs.Levels.{type_levels}
 use Rattle.fly_cast.specs.Castable.{castable}
 use Rattle.fly_cast.specs.Convert.{result_map, entry_ok, converted}
 use Rattle.fly_cast.proofs.Levels.{only-levels}

@@ -1,6 +1,6 @@
 use Rattle.std.proofs.Common.{◌≡◌, ◌++◌, ◌+◌, ◌*◌, map, length, Ok}
 use Rattle.std.specs.Vec.Iter.{into_iter_items, into_iter_len}
-use Rattle.fly_types.specs.Sound.{type_levels, largest}
+use Rattle.fly_types.specs.Levels.{type_levels, largest}
 use Rattle.fly_cast.specs.Convert.{each_ok, entry_ok, converted}
 use Rattle.fly_cast.proofs.conversion.+convert.Given as goal
 
