@@ -1,2 +1,4 @@
 pub mod Castable
 pub mod Convert
+pub mod Decided
+pub mod Fit

@@ -3,6 +3,8 @@
 
 mod castable;
 mod conversion;
+mod fitting;
 
 pub use castable::is_castable;
 pub use conversion::{ConvertFault, convert};
+pub use fitting::{FitFault, fit};
