@@ -1,7 +1,9 @@
 pub mod Casts
 pub mod Converts
+pub mod Depths
 pub mod Fits
 pub mod Levels
 pub mod Lists
 pub mod Options
+pub mod Sounds
 pub mod Targets

@@ -40,7 +40,7 @@ contains-among values text h =
 
 -- ---- results
 
-both-true : (a b : Bool) → (a && b) ≡ true → (a ≡ true) × (b ≡ true)
+pub both-true : (a b : Bool) → (a && b) ≡ true → (a ≡ true) × (b ≡ true)
 both-true true true e = (refl, refl)
 both-true true false e = cc
 both-true false b e = cc
@@ -49,11 +49,11 @@ list_all-each : {X : Type 0} (p : X → Bool) (xs : List X) → list_all p xs �
 list_all-each p [] e = tt
 list_all-each p (x ∷ xs) e = let parts = both-true (p x) (list_all p xs) e in (parts.0, list_all-each p xs parts.1)
 
-map-ok : {X Y E : Type 0} (f : X → Y) (r : Result X E) (y : Y) → result_map f r ≡ Ok y → (x : X) × (r ≡ Ok x) × (y ≡ f x)
+pub map-ok : {X Y E : Type 0} (f : X → Y) (r : Result X E) (y : Y) → result_map f r ≡ Ok y → (x : X) × (r ≡ Ok x) × (y ≡ f x)
 map-ok f (Ok x) y e = (x, refl, cc)
 map-ok f (Err d) y e = cc
 
-each-ok : {X Y E : Type 0} (P : X → Type 0) (Q : Y → Type 0) (f : X → Result Y E) → ((x : X) (y : Y) → P x → f x ≡ Ok y → Q y)
+pub each-ok : {X Y E : Type 0} (P : X → Type 0) (Q : Y → Type 0) (f : X → Result Y E) → ((x : X) (y : Y) → P x → f x ≡ Ok y → Q y)
     → (xs : List X) (ys : List Y) → Each P xs → each_ok f xs ≡ Ok ys → Each Q ys
 each-ok P Q f step [] ys h e = let none : [] ≡ ys = cc in subst (Each Q) none tt
 each-ok P Q f step (x ∷ xs) ys h e =
@@ -66,7 +66,7 @@ abbrev ReachesWithin : ℕ → Type 0
 ReachesWithin n = (l r : Literal) (a b : LiteralType) → type_levels a + type_levels b ≤ n → IsMember a l → castable a b ≡ true → converted l a b ≡ Ok r
     → IsMember b r
 
-all-cast : (p : LiteralType → Bool) (ts : List LiteralType) (variant : LiteralType) (value : Literal) → list_all p ts ≡ true → IsVariant ts variant value
+pub all-cast : (p : LiteralType → Bool) (ts : List LiteralType) (variant : LiteralType) (value : Literal) → list_all p ts ≡ true → IsVariant ts variant value
     → p variant ≡ true
 all-cast p [] variant value e h = absurd h
 all-cast p (t ∷ ts) variant value e (inl h) = ap p h.0 ∙ (both-true (p t) (list_all p ts) e).0

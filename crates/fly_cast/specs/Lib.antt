@@ -2,3 +2,4 @@ pub mod Castable
 pub mod Convert
 pub mod Decided
 pub mod Fit
+pub mod Target

@@ -2,7 +2,9 @@ ghost use Rattle.std.specs.Prelude.{◌≡◌, ◌∷◌, filter, Ok, Some, IfOk
 ghost use Rattle.std.specs.List.{All};
 ghost use Rattle.fly_types.specs.declared.kinds.LiteralType.{out-LiteralType};
 ghost use Rattle.fly_types.specs.declared.literals.Literal.{out-Literal};
+ghost use Rattle.fly_types.specs.Sound.{IsSound};
 ghost use Rattle.fly_types.specs.Membership.{IsMember, IsCollectionOf, IsMapOf};
+ghost use Rattle.fly_cast.specs.Target.{IsTarget};
 ghost use Rattle.fly_cast.specs.Castable.{only, castable};
 ghost use Rattle.fly_cast.specs.Convert.{IsAnswer, form_converts, into_variant, elements_convert, entries_convert, text_converts, entry_ok, each_ok, converted};
 
@@ -26,6 +28,7 @@ pub fn convert(alloc: Global, literal: Literal, a: &LiteralType, b: &LiteralType
     requires castable { IsTrue (castable a.now b.now) }
     ensures value { IsAnswer (converted literal a.now b.now) result }
     ensures target { IfOk result (IsMember b.now) }
+    ensures sound { IsSound literal → IsTarget b.now → IfOk result IsSound }
 {
     convert_by_rule(alloc, literal, a, b)
 }

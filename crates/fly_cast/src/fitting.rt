@@ -3,7 +3,9 @@ ghost use Rattle.std.specs.List.{list_all};
 ghost use Rattle.std.specs.Option.{option_copied};
 ghost use Rattle.fly_types.specs.declared.kinds.LiteralType.{out-LiteralType};
 ghost use Rattle.fly_types.specs.declared.literals.Literal.{out-Literal};
+ghost use Rattle.fly_types.specs.Sound.{IsSound};
 ghost use Rattle.fly_types.specs.Membership.{IsMember};
+ghost use Rattle.fly_cast.specs.Target.{IsTarget};
 ghost use Rattle.fly_cast.specs.Castable.{only};
 ghost use Rattle.fly_cast.specs.Fit.{IsFitted, each_some, entry_some, elements_fit, entries_fit, union_fits, into_only, form_fits, fits};
 
@@ -21,6 +23,7 @@ pub enum FitFault {
 pub fn fit(alloc: Global, literal: Literal, kind: &LiteralType) -> Result<Literal, FitFault>
     ensures value { IsFitted (fits literal kind.now) result }
     ensures target { IfOk result (IsMember kind.now) }
+    ensures sound { IsSound literal → IsTarget kind.now → IfOk result IsSound }
 {
     fit_by_rule(alloc, literal, kind)
 }
