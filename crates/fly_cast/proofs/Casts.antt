@@ -5,7 +5,7 @@ use Rattle.std.specs.List.{list_all, AllByRecursion as Each}
 use Rattle.fly_types.specs.declared.kinds.LiteralType.{LiteralType, out-LiteralType}
 use Rattle.fly_types.specs.declared.kinds.LiteralType.TheOpen.{LiteralType-F}
 use Rattle.fly_types.specs.Layer.{TypeLayer}
-use Rattle.fly_types.specs.Same.{same_type, answers_same_type}
+use Rattle.fly_types.specs.Same.{same_type, same_type-Decides, answers_same_type}
 use Rattle.fly_types.specs.Levels.{type_levels}
 use Rattle.fly_cast.specs.Castable.{only, enum_casts, form_casts, castable_within, castable}
 use Rattle.fly_cast.proofs.Levels.{layer_levels, type_levels-out, type_levels-positive, variants-below}
@@ -73,3 +73,7 @@ pub castable-differ : (a b : LiteralType) (r s : Bool) → (IsTrue r ↔ (a ≡ 
 castable-differ a b r s h e f =
     let same : same_type a b ≡ false = sym (answers_same_type a b r h) ∙ e in
     f ∙ sym (castable-step a b ∙ ap (λ s. s || form_casts castable a b (out-LiteralType a) (out-LiteralType b)) same)
+
+pub castable-itself : (t : LiteralType) → castable t t ≡ true
+castable-itself t =
+    castable-step t t ∙ ap (λ s. s || form_casts castable t t (out-LiteralType t) (out-LiteralType t)) ((same_type-Decides t t).1 refl)

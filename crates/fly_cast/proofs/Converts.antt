@@ -10,7 +10,7 @@ use Rattle.fly_types.specs.declared.literals.Literal.TheOpen.{Literal-F}
 use Rattle.fly_types.specs.declared.literals.Literal.TheVariants as literal
 use Rattle.fly_types.specs.Layer.{TypeLayer, LiteralLayer}
 use Rattle.fly_types.specs.Membership.{IsMember, IsCollectionOf, IsMapOf, IsUnionWhere, IsVariant}
-use Rattle.fly_types.specs.Same.{same_type, answers_same_type}
+use Rattle.fly_types.specs.Same.{same_type, same_type-Decides, answers_same_type}
 use Rattle.fly_types.specs.Levels.{type_levels, largest}
 use Rattle.fly_types.proofs.Member.{IsMemberAt, IsMember-out}
 use Rattle.fly_cast.specs.Castable.{only, castable}
@@ -167,3 +167,13 @@ map-answers l a b x y x' y' r ea eb ex ey h =
 pub entries-at : (conv : Literal → Converted) (l : Literal) (es es' : List (Text × Literal)) → out-Literal l ≡ Literal-F.Map es → es' ≡ es
     → entries_convert conv l (out-Literal l) ≡ result_map literal.Map (each_ok (entry_ok conv) es')
 entries-at conv l es es' e f = ap (entries_convert conv l) e ∙ ap (λ xs. result_map literal.Map (each_ok (entry_ok conv) xs)) (sym f)
+
+itself-within : (n : ℕ) (l : Literal) (t : LiteralType) → converted_within n l t t ≡ Ok l
+unfolding converted_within
+itself-within zero l t = refl
+itself-within (suc n) l t =
+    ap (λ s. if s then Ok l else form_converts (converted_within n) l t t (out-LiteralType t) (out-LiteralType t)) ((same_type-Decides t t).1 refl)
+
+pub converted-itself : (l : Literal) (t : LiteralType) → converted l t t ≡ Ok l
+unfolding converted
+converted-itself l t = itself-within (type_levels t + type_levels t) l t

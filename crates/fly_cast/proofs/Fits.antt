@@ -233,3 +233,7 @@ plain-fits f ts l h =
 pub is_some-copied : {X : Type 0} (o : Option (Bor X)) → is_some o ≡ is_some (option_copied o)
 is_some-copied None = refl
 is_some-copied (Some x) = refl
+
+pub fits-itself : (l : Literal) (t : LiteralType) → IsMember t l → fits l t ≡ Some l
+fits-itself l t h =
+    fits-step l t ∙ ap (λ b. if b then Some l else form_fits fits l (out-LiteralType t)) ((is_of-Decides t l).1 h)

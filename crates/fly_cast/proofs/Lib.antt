@@ -7,3 +7,4 @@ pub mod Lists
 pub mod Options
 pub mod Sounds
 pub mod Targets
+pub mod Rows

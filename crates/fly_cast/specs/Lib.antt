@@ -3,3 +3,4 @@ pub mod Convert
 pub mod Decided
 pub mod Fit
 pub mod Target
+pub mod Laws

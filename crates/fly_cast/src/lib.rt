@@ -4,7 +4,13 @@
 mod castable;
 mod conversion;
 mod fitting;
+mod laws;
+#[cfg(test)]
+mod tests;
 
 pub use castable::is_castable;
 pub use conversion::{ConvertFault, convert};
 pub use fitting::{FitFault, fit};
+pub use laws::{
+    equal_types_change_nothing, members_fit_as_they_are, rules_decide, wanted_types_are_reached,
+};
