@@ -1,13 +1,12 @@
 -- Castability by its rules: what it is at two types, from what it is at their parts.
-use Rattle.std.proofs.Common.{◌≡◌, ◌↔◌, IsTrue, ℕ, zero, suc, ◌+◌, ◌-◌, ◌<◌, ◌≤◌, Bool, true, false, ◌||◌, List, [], ◌∷◌, map, refl, sym, ◌∙◌, ap, arith}
+use Rattle.std.proofs.Common.{◌≡◌, ◌↔◌, IsTrue, ℕ, zero, suc, ◌+◌, ◌-◌, ◌≤◌, Bool, true, false, ◌||◌, List, refl, sym, ◌∙◌, ap, arith}
 use Rattle.std.specs.Prelude.{is_some, filter}
-use Rattle.std.specs.List.{list_all, AllByRecursion as Each}
 use Rattle.fly_types.specs.declared.kinds.LiteralType.{LiteralType, out-LiteralType}
 use Rattle.fly_types.specs.declared.kinds.LiteralType.TheOpen.{LiteralType-F}
 use Rattle.fly_types.specs.Layer.{TypeLayer}
 use Rattle.fly_types.specs.Same.{same_type, same_type-Decides, answers_same_type}
 use Rattle.fly_types.specs.Levels.{type_levels}
-use Rattle.fly_cast.specs.Castable.{only, enum_casts, form_casts, castable_within, castable}
+use Rattle.fly_cast.specs.Castable.{only, form_casts, castable_within, castable}
 use Rattle.fly_cast.proofs.Levels.{layer_levels, type_levels-out, type_levels-positive, variants-below}
 use Rattle.fly_cast.proofs.Lists.{list_all-same, filter-same, each-map}
 
@@ -20,16 +19,16 @@ into_union-same : (c d : LiteralType → LiteralType → Bool) (k : ℕ) (a : Li
     → is_some (only (filter (c a) ts)) ≡ is_some (only (filter (d a) ts))
 into_union-same c d k a ts agree le =
     ap (λ xs. is_some (only xs)) (filter-same (c a) (d a) ts
-        (each-map (λ t. type_levels t ≤ k - type_levels a) (λ t. c a t ≡ d a t) (λ t low. agree a t (omega arith)) ts
-            (variants-below (k - type_levels a) ts (omega arith))))
+    (each-map (λ t. type_levels t ≤ k - type_levels a) (λ t. c a t ≡ d a t) (λ t low. agree a t (omega arith)) ts
+    (variants-below (k - type_levels a) ts (omega arith))))
 
 form_casts-same : (c d : LiteralType → LiteralType → Bool) (k : ℕ) (a b : LiteralType) (p q : TypeLayer)
     → AgreeWithin k c d → type_levels a ≡ layer_levels p → type_levels b ≡ layer_levels q → layer_levels p + layer_levels q ≤ k + 1
     → form_casts c a b p q ≡ form_casts d a b p q
 form_casts-same c d k a b (LiteralType-F.Union ts) q agree pa qb le =
     list_all-same (λ t. c t b) (λ t. d t b) ts
-        (each-map (λ t. type_levels t ≤ k - type_levels b) (λ t. c t b ≡ d t b) (λ t low. agree t b (omega arith)) ts
-            (variants-below (k - type_levels b) ts (omega arith)))
+    (each-map (λ t. type_levels t ≤ k - type_levels b) (λ t. c t b ≡ d t b) (λ t low. agree t b (omega arith)) ts
+    (variants-below (k - type_levels b) ts (omega arith)))
 form_casts-same c d k a b (LiteralType-F.Simple s) (LiteralType-F.Union ts) agree pa qb le = into_union-same c d k a ts agree (omega arith)
 form_casts-same c d k a b (LiteralType-F.Collection x) (LiteralType-F.Union ts) agree pa qb le = into_union-same c d k a ts agree (omega arith)
 form_casts-same c d k a b (LiteralType-F.Map x) (LiteralType-F.Union ts) agree pa qb le = into_union-same c d k a ts agree (omega arith)
@@ -46,9 +45,9 @@ within-same zero m a b h g = absurd (omega (arith, type_levels-positive a))
 within-same (suc n) zero a b h g = absurd (omega (arith, type_levels-positive a))
 within-same (suc n) (suc m) a b h g =
     ap (λ r. same_type a b || r)
-        (form_casts-same (castable_within n) (castable_within m) (type_levels a + type_levels b - 1) a b (out-LiteralType a) (out-LiteralType b)
-            (λ x y le. within-same n m x y (omega arith) (omega arith)) (type_levels-out a) (type_levels-out b)
-            (omega (arith, type_levels-out a, type_levels-out b, type_levels-positive a)))
+    (form_casts-same (castable_within n) (castable_within m) (type_levels a + type_levels b - 1) a b (out-LiteralType a) (out-LiteralType b)
+    (λ x y le. within-same n m x y (omega arith) (omega arith)) (type_levels-out a) (type_levels-out b)
+    (omega (arith, type_levels-out a, type_levels-out b, type_levels-positive a)))
 
 -- castability at two types, by the rules
 pub castable-step : (a b : LiteralType) → castable a b ≡ (same_type a b || form_casts castable a b (out-LiteralType a) (out-LiteralType b))
@@ -57,9 +56,9 @@ castable-step a b =
     let n : ℕ = type_levels a + type_levels b in
     let further : castable_within n a b ≡ castable_within (suc n) a b = within-same n (suc n) a b (omega arith) (omega arith) in
     further ∙ ap (λ r. same_type a b || r)
-        (form_casts-same (castable_within n) castable (n - 1) a b (out-LiteralType a) (out-LiteralType b)
-            (λ x y le. within-same n (type_levels x + type_levels y) x y (omega arith) (omega arith)) (type_levels-out a) (type_levels-out b)
-            (omega (arith, type_levels-out a, type_levels-out b, type_levels-positive a)))
+    (form_casts-same (castable_within n) castable (n - 1) a b (out-LiteralType a) (out-LiteralType b)
+    (λ x y le. within-same n (type_levels x + type_levels y) x y (omega arith) (omega arith)) (type_levels-out a) (type_levels-out b)
+    (omega (arith, type_levels-out a, type_levels-out b, type_levels-positive a)))
 
 -- what a test of equality, and then the rules, answer
 

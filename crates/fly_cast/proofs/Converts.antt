@@ -1,6 +1,6 @@
 -- Conversion by its rules: what it is between two types, from what it is between their parts.
-use Rattle.std.proofs.Common.{◌≡◌, ◌↔◌, IsTrue, Result, ◌++◌, ℕ, zero, suc, ◌+◌, ◌-◌, ◌≤◌, Bool, true, false, if◌then◌else◌, List, [], ◌∷◌, map, filter, Ok, Err, Some, None, refl, sym, ◌∙◌, ap, subst, arith}
-use Rattle.std.specs.List.{All, AllByRecursion as Each}
+use Rattle.std.proofs.Common.{◌≡◌, ◌↔◌, IsTrue, Result, ◌++◌, ℕ, zero, suc, ◌+◌, ◌-◌, ◌≤◌, Bool, true, false, if◌then◌else◌, List, [], ◌∷◌, filter, Ok, Err, refl, sym, ◌∙◌, ap, subst, arith}
+use Rattle.std.specs.List.{AllByRecursion as Each}
 use Rattle.std.proofs.lemmas.List.Elements.{recursion_from_All}
 use Rattle.fly_types.specs.declared.text.Text.{Text}
 use Rattle.fly_types.specs.declared.kinds.LiteralType.{LiteralType, out-LiteralType}
@@ -11,7 +11,7 @@ use Rattle.fly_types.specs.declared.literals.Literal.TheVariants as literal
 use Rattle.fly_types.specs.Layer.{TypeLayer, LiteralLayer}
 use Rattle.fly_types.specs.Membership.{IsMember, IsCollectionOf, IsMapOf, IsUnionWhere, IsVariant}
 use Rattle.fly_types.specs.Same.{same_type, same_type-Decides, answers_same_type}
-use Rattle.fly_types.specs.Levels.{type_levels, largest}
+use Rattle.fly_types.specs.Levels.{type_levels}
 use Rattle.fly_types.proofs.Member.{IsMemberAt, IsMember-out}
 use Rattle.fly_cast.specs.Castable.{only, castable}
 use Rattle.fly_cast.specs.declared.conversion.ConvertFault.{ConvertFault}
@@ -46,8 +46,8 @@ entries-same : (f g : Literal → Converted) (l : Literal) (P : Literal → Type
     → IsMapOf P m → ((x : Literal) → P x → f x ≡ g x) → entries_convert f l m ≡ entries_convert g l m
 entries-same f g l P (Literal-F.Map entries) h agree =
     ap (result_map literal.Map) (each_ok-same (entry_ok f) (entry_ok g) entries
-        (each-map (λ e. P e.1) (λ e. entry_ok f e ≡ entry_ok g e) (λ e p. ap (result_map (λ value. (e.0, value))) (agree e.1 p)) entries
-            (recursion_from_All (λ e. P e.1) entries h)))
+    (each-map (λ e. P e.1) (λ e. entry_ok f e ≡ entry_ok g e) (λ e p. ap (result_map (λ value. (e.0, value))) (agree e.1 p)) entries
+    (recursion_from_All (λ e. P e.1) entries h)))
 entries-same f g l P _ h agree = refl
 
 to_union-same : (c d : Literal → LiteralType → LiteralType → Converted) (k : ℕ) (l : Literal) (a : LiteralType) (ts : List LiteralType)
@@ -55,15 +55,15 @@ to_union-same : (c d : Literal → LiteralType → LiteralType → Converted) (k
     → into_variant (c l a) l (only (filter (castable a) ts)) ≡ into_variant (d l a) l (only (filter (castable a) ts))
 to_union-same c d k l a ts agree member le =
     into-same (c l a) (d l a) l (filter (castable a) ts) (each-filter (λ t. c l a t ≡ d l a t) (castable a) ts
-        (each-map (λ t. type_levels t ≤ k - type_levels a) (λ t. c l a t ≡ d l a t) (λ t low. agree l a t (omega arith) member) ts
-            (variants-below (k - type_levels a) ts (omega arith))))
+    (each-map (λ t. type_levels t ≤ k - type_levels a) (λ t. c l a t ≡ d l a t) (λ t low. agree l a t (omega arith) member) ts
+    (variants-below (k - type_levels a) ts (omega arith))))
 
 form_converts-same : (c d : Literal → LiteralType → LiteralType → Converted) (k : ℕ) (l : Literal) (a b : LiteralType) (p q : TypeLayer)
     → AgreeWithin k c d → IsMember a l → IsMemberAt p l → type_levels a ≡ layer_levels p → type_levels b ≡ layer_levels q
     → layer_levels p + layer_levels q ≤ k + 1 → form_converts c l a b p q ≡ form_converts d l a b p q
 form_converts-same c d k l a b (LiteralType-F.Union ts) q agree member at pa qb le =
     value-same (λ value variant. c value variant b) (λ value variant. d value variant b) l (λ variant value. IsVariant ts variant value) (out-Literal l) at
-        (λ value variant h. let of = variant-of ts variant value h in agree value variant b (omega (arith, of.0)) of.1)
+    (λ value variant h. let of = variant-of ts variant value h in agree value variant b (omega (arith, of.0)) of.1)
 form_converts-same c d k l a b (LiteralType-F.Simple s) (LiteralType-F.Union ts) agree member at pa qb le = to_union-same c d k l a ts agree member (omega arith)
 form_converts-same c d k l a b (LiteralType-F.Collection x) (LiteralType-F.Union ts) agree member at pa qb le = to_union-same c d k l a ts agree member (omega arith)
 form_converts-same c d k l a b (LiteralType-F.Map x) (LiteralType-F.Union ts) agree member at pa qb le = to_union-same c d k l a ts agree member (omega arith)
@@ -86,9 +86,9 @@ within-same zero m l a b h g member = absurd (omega (arith, type_levels-positive
 within-same (suc n) zero l a b h g member = absurd (omega (arith, type_levels-positive a))
 within-same (suc n) (suc m) l a b h g member =
     ap (λ r. if same_type a b then Ok l else r)
-        (form_converts-same (converted_within n) (converted_within m) (type_levels a + type_levels b - 1) l a b (out-LiteralType a) (out-LiteralType b)
-            (λ x s t le mem. within-same n m x s t (omega arith) (omega arith) mem) member (member-at a l member) (type_levels-out a) (type_levels-out b)
-            (omega (arith, type_levels-out a, type_levels-out b, type_levels-positive a)))
+    (form_converts-same (converted_within n) (converted_within m) (type_levels a + type_levels b - 1) l a b (out-LiteralType a) (out-LiteralType b)
+    (λ x s t le mem. within-same n m x s t (omega arith) (omega arith) mem) member (member-at a l member) (type_levels-out a) (type_levels-out b)
+    (omega (arith, type_levels-out a, type_levels-out b, type_levels-positive a)))
 
 -- conversion of a member, by the rules
 pub converted-step : (l : Literal) (a b : LiteralType) → IsMember a l
@@ -98,10 +98,10 @@ converted-step l a b member =
     let n : ℕ = type_levels a + type_levels b in
     let further : converted_within n l a b ≡ converted_within (suc n) l a b = within-same n (suc n) l a b (omega arith) (omega arith) member in
     further ∙ ap (λ r. if same_type a b then Ok l else r)
-        (form_converts-same (converted_within n) converted (n - 1) l a b (out-LiteralType a) (out-LiteralType b)
-            (λ x s t le mem. within-same n (type_levels s + type_levels t) x s t (omega arith) (omega arith) mem)
-            member (member-at a l member) (type_levels-out a) (type_levels-out b)
-            (omega (arith, type_levels-out a, type_levels-out b, type_levels-positive a)))
+    (form_converts-same (converted_within n) converted (n - 1) l a b (out-LiteralType a) (out-LiteralType b)
+    (λ x s t le mem. within-same n (type_levels s + type_levels t) x s t (omega arith) (omega arith) mem)
+    member (member-at a l member) (type_levels-out a) (type_levels-out b)
+    (omega (arith, type_levels-out a, type_levels-out b, type_levels-positive a)))
 
 -- what a test of equality, and then the rules, answer
 
@@ -144,7 +144,7 @@ pub union-parts : (a : LiteralType) (ts : List LiteralType) (l value : Literal) 
     → (type_levels variant + 1 ≤ type_levels a) × IsMember variant value
 union-parts a ts l value variant member ea el =
     let at : IsVariant ts variant value =
-        subst (λ (m : LiteralLayer). IsUnionWhere (λ s x. IsVariant ts s x) m) el (member-as a l (LiteralType-F.Union ts) ea member) in
+    subst (λ (m : LiteralLayer). IsUnionWhere (λ s x. IsVariant ts s x) m) el (member-as a l (LiteralType-F.Union ts) ea member) in
     let of = variant-of ts variant value at in
     (omega (arith, of.0, levels-at a (LiteralType-F.Union ts) ea), of.1)
 
@@ -154,7 +154,7 @@ pub collection-answers : (l : Literal) (a b x y x' y' : LiteralType) (r : Result
     → IsAnswer (form_converts converted l a b (out-LiteralType a) (out-LiteralType b)) r
 collection-answers l a b x y x' y' r ea eb ex ey h =
     answers-same _ _ r
-        ((λ i. form_converts converted l a b (ea i) (eb i)) ∙ sym (λ i. elements_convert (λ e. converted e (ex i) (ey i)) l (out-Literal l))) h
+    ((λ i. form_converts converted l a b (ea i) (eb i)) ∙ sym (λ i. elements_convert (λ e. converted e (ex i) (ey i)) l (out-Literal l))) h
 
 pub map-answers : (l : Literal) (a b x y x' y' : LiteralType) (r : Result Literal ConvertFault)
     → out-LiteralType a ≡ LiteralType-F.Map x → out-LiteralType b ≡ LiteralType-F.Map y → x' ≡ x → y' ≡ y
@@ -162,7 +162,7 @@ pub map-answers : (l : Literal) (a b x y x' y' : LiteralType) (r : Result Litera
     → IsAnswer (form_converts converted l a b (out-LiteralType a) (out-LiteralType b)) r
 map-answers l a b x y x' y' r ea eb ex ey h =
     answers-same _ _ r
-        ((λ i. form_converts converted l a b (ea i) (eb i)) ∙ sym (λ i. entries_convert (λ e. converted e (ex i) (ey i)) l (out-Literal l))) h
+    ((λ i. form_converts converted l a b (ea i) (eb i)) ∙ sym (λ i. entries_convert (λ e. converted e (ex i) (ey i)) l (out-Literal l))) h
 
 pub entries-at : (conv : Literal → Converted) (l : Literal) (es es' : List (Text × Literal)) → out-Literal l ≡ Literal-F.Map es → es' ≡ es
     → entries_convert conv l (out-Literal l) ≡ result_map literal.Map (each_ok (entry_ok conv) es')

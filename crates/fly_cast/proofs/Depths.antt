@@ -1,5 +1,5 @@
 -- A literal has fewer levels than a type that it is of.
-use Rattle.std.proofs.Common.{◌≡◌, ℕ, zero, suc, ◌+◌, ◌-◌, ◌≤◌, max, List, [], ◌∷◌, map, Some, refl, sym, ◌∙◌, ap, subst, arith}
+use Rattle.std.proofs.Common.{◌≡◌, ℕ, zero, suc, ◌+◌, ◌-◌, ◌≤◌, List, [], ◌∷◌, map, Some, refl, ◌∙◌, ap, arith}
 use Rattle.std.specs.List.{AllByRecursion as Each}
 use Rattle.std.proofs.lemmas.List.Elements.{recursion_from_All}
 use Rattle.fly_types.specs.declared.text.Text.{Text}
@@ -68,18 +68,18 @@ union-below n ts _ below le h = absurd h
 collection-below : (n : ℕ) (x : LiteralType) (m : LiteralLayer) → BelowWithin n → type_levels x ≤ n → IsCollectionOf (IsMember x) m → depth m ≤ type_levels x
 collection-below n x (Literal-F.Collection elements) below le h =
     let low : largest (map literal_levels elements) ≤ type_levels x - 1 =
-        largest-least literal_levels (type_levels x - 1) elements
-            (each-map (IsMember x) (λ e. literal_levels e ≤ type_levels x - 1) (λ e of. omega (arith, below e x le of)) elements
-                (recursion_from_All (IsMember x) elements h)) in
+    largest-least literal_levels (type_levels x - 1) elements
+    (each-map (IsMember x) (λ e. literal_levels e ≤ type_levels x - 1) (λ e of. omega (arith, below e x le of)) elements
+    (recursion_from_All (IsMember x) elements h)) in
     omega (arith, type_levels-positive x)
 collection-below n x _ below le h = absurd h
 
 map-below : (n : ℕ) (x : LiteralType) (m : LiteralLayer) → BelowWithin n → type_levels x ≤ n → IsMapOf (IsMember x) m → depth m ≤ type_levels x
 map-below n x (Literal-F.Map entries) below le h =
     let low : largest (map (λ (e : Text × Literal). literal_levels e.1) entries) ≤ type_levels x - 1 =
-        largest-least (λ (e : Text × Literal). literal_levels e.1) (type_levels x - 1) entries
-            (each-map (λ e. IsMember x e.1) (λ e. literal_levels e.1 ≤ type_levels x - 1) (λ e of. omega (arith, below e.1 x le of)) entries
-                (recursion_from_All (λ e. IsMember x e.1) entries h)) in
+    largest-least (λ (e : Text × Literal). literal_levels e.1) (type_levels x - 1) entries
+    (each-map (λ e. IsMember x e.1) (λ e. literal_levels e.1 ≤ type_levels x - 1) (λ e of. omega (arith, below e.1 x le of)) entries
+    (recursion_from_All (λ e. IsMember x e.1) entries h)) in
     omega (arith, type_levels-positive x)
 map-below n x _ below le h = absurd h
 
@@ -95,7 +95,7 @@ below : (n : ℕ) → BelowWithin n
 below zero l t le h = absurd (omega (arith, type_levels-positive t))
 below (suc n) l t le h =
     let at : depth (out-Literal l) + 1 ≤ layer_levels (out-LiteralType t) =
-        layer-below n l (out-LiteralType t) (below n) (omega (arith, type_levels-out t)) (member-at t l h) in
+    layer-below n l (out-LiteralType t) (below n) (omega (arith, type_levels-out t)) (member-at t l h) in
     omega (arith, type_levels-out t, layer-depth l (out-Literal l) refl)
 
 pub member-levels : (l : Literal) (t : LiteralType) → IsMember t l → literal_levels l + 1 ≤ type_levels t

@@ -28,7 +28,6 @@ use Rattle.fly_cast.proofs.Options.{map-some, is_some-map, each_some-fails, each
 abbrev AgreeWithin : ℕ → (c d : Literal → LiteralType → Option Literal) → Type 0
 AgreeWithin k c d = (x : Literal) (t : LiteralType) → type_levels t ≤ k → c x t ≡ d x t
 
-
 first-same : (f g : LiteralType → Option Literal) (ts : List LiteralType) → Each (λ t. f t ≡ g t) ts
     → option_and_then (λ t. option_map (λ value. literal.Union value t) (f t)) (only ts)
     ≡ option_and_then (λ t. option_map (λ value. literal.Union value t) (g t)) (only ts)
@@ -39,7 +38,7 @@ first-same f g (t ∷ s ∷ ts) h = refl
 into_only-same : (f g : LiteralType → Option Literal) (ts : List LiteralType) → Each (λ t. f t ≡ g t) ts → into_only f ts ≡ into_only g ts
 into_only-same f g ts h =
     let takers : filter (λ t. is_some (f t)) ts ≡ filter (λ t. is_some (g t)) ts =
-        filter-same (λ t. is_some (f t)) (λ t. is_some (g t)) ts (each-map (λ t. f t ≡ g t) (λ t. is_some (f t) ≡ is_some (g t)) (λ t e. ap is_some e) ts h) in
+    filter-same (λ t. is_some (f t)) (λ t. is_some (g t)) ts (each-map (λ t. f t ≡ g t) (λ t. is_some (f t) ≡ is_some (g t)) (λ t e. ap is_some e) ts h) in
     ap (λ ss. option_and_then (λ t. option_map (λ value. literal.Union value t) (f t)) (only ss)) takers
     ∙ first-same f g (filter (λ t. is_some (g t)) ts) (each-filter (λ t. f t ≡ g t) (λ t. is_some (g t)) ts h)
 
@@ -52,7 +51,7 @@ form_fits-same : (c d : Literal → LiteralType → Option Literal) (k : ℕ) (l
     → form_fits c l q ≡ form_fits d l q
 form_fits-same c d k l (LiteralType-F.Union ts) agree le =
     union_fits-same (c l) (d l) ts (out-Literal l)
-        (each-map (λ t. type_levels t ≤ k) (λ t. c l t ≡ d l t) (λ t low. agree l t low) ts (variants-below k ts (omega arith)))
+    (each-map (λ t. type_levels t ≤ k) (λ t. c l t ≡ d l t) (λ t low. agree l t low) ts (variants-below k ts (omega arith)))
 form_fits-same c d k l (LiteralType-F.Collection x) agree le =
     let low : type_levels x ≤ k = omega arith in λ i. elements_fit (λ e. agree e x low i) (out-Literal l)
 form_fits-same c d k l (LiteralType-F.Map x) agree le =
@@ -65,8 +64,8 @@ within-same zero m l t h g = absurd (omega (arith, type_levels-positive t))
 within-same (suc n) zero l t h g = absurd (omega (arith, type_levels-positive t))
 within-same (suc n) (suc m) l t h g =
     ap (λ r. if is_of t l then Some l else r)
-        (form_fits-same (fits_within n) (fits_within m) (type_levels t - 1) l (out-LiteralType t)
-            (λ x s le. within-same n m x s (omega arith) (omega arith)) (omega (arith, type_levels-out t, type_levels-positive t)))
+    (form_fits-same (fits_within n) (fits_within m) (type_levels t - 1) l (out-LiteralType t)
+    (λ x s le. within-same n m x s (omega arith) (omega arith)) (omega (arith, type_levels-out t, type_levels-positive t)))
 
 -- fitting at a type, by the rules
 pub fits-step : (l : Literal) (t : LiteralType) → fits l t ≡ (if is_of t l then Some l else form_fits fits l (out-LiteralType t))
@@ -75,8 +74,8 @@ fits-step l t =
     let n : ℕ = type_levels t in
     let further : fits_within n l t ≡ fits_within (suc n) l t = within-same n (suc n) l t (omega arith) (omega arith) in
     further ∙ ap (λ r. if is_of t l then Some l else r)
-        (form_fits-same (fits_within n) fits (n - 1) l (out-LiteralType t)
-            (λ x s le. within-same n (type_levels s) x s (omega arith) (omega arith)) (omega (arith, type_levels-out t, type_levels-positive t)))
+    (form_fits-same (fits_within n) fits (n - 1) l (out-LiteralType t)
+    (λ x s le. within-same n (type_levels s) x s (omega arith) (omega arith)) (omega (arith, type_levels-out t, type_levels-positive t)))
 
 -- ---- what a test of membership, and then the rules, answer
 
@@ -157,8 +156,8 @@ variant-reaches n l r ts (Some t) reaches le which e =
     let low : type_levels t ≤ largest (map type_levels ts) = only-levels (λ t. is_some (fits l t)) ts t which in
     let of : IsMember t parts.0 = reaches l parts.0 t (omega arith) parts.1 in
     let there : IsVariant ts t parts.0 =
-        only-has (λ s. (t ≡ s) × IsMember s parts.0 → IsVariant ts t parts.0) (λ t. is_some (fits l t)) ts t which
-            (some_each (λ s. (t ≡ s) × IsMember s parts.0) ts) (refl, of) in
+    only-has (λ s. (t ≡ s) × IsMember s parts.0 → IsVariant ts t parts.0) (λ t. is_some (fits l t)) ts t which
+    (some_each (λ s. (t ≡ s) × IsMember s parts.0) ts) (refl, of) in
     let out : out-Literal r ≡ Literal-F.Union parts.0 t = ap out-Literal parts.2 ∙ view.outs-Union _ _ in
     subst (λ m. IsUnionWhere (λ variant value. IsVariant ts variant value) m) (sym out) there
 
@@ -172,7 +171,7 @@ elements-reach : (n : ℕ) (r : Literal) (x : LiteralType) (m : LiteralLayer) �
 elements-reach n r x (Literal-F.Collection elements) reaches le e =
     let parts = map-some literal.Collection (each_some (λ e. fits e x) elements) r e in
     let all : All (IsMember x) parts.0 = All-from_recursion (IsMember x) parts.0
-        (each-some (IsMember x) (λ e. fits e x) (λ z w is. reaches z w x le is) elements parts.0 parts.1) in
+    (each-some (IsMember x) (λ e. fits e x) (λ z w is. reaches z w x le is) elements parts.0 parts.1) in
     let out : out-Literal r ≡ Literal-F.Collection parts.0 = ap out-Literal parts.2 ∙ view.outs-Collection _ in
     subst (λ m. IsCollectionOf (IsMember x) m) (sym out) all
 elements-reach n r x _ reaches le e = cc
@@ -182,10 +181,10 @@ entries-reach : (n : ℕ) (r : Literal) (x : LiteralType) (m : LiteralLayer) →
 entries-reach n r x (Literal-F.Map entries) reaches le e =
     let parts = map-some literal.Map (each_some (entry_some (λ e. fits e x)) entries) r e in
     let step : (z w : Text × Literal) → entry_some (λ e. fits e x) z ≡ Some w → IsMember x w.1 =
-        λ z w is. let one = map-some (λ v. (z.0, v)) (fits z.1 x) w is in
-            subst (λ (u : Text × Literal). IsMember x u.1) (sym one.2) (reaches z.1 one.0 x le one.1) in
+    λ z w is. let one = map-some (λ v. (z.0, v)) (fits z.1 x) w is in
+    subst (λ (u : Text × Literal). IsMember x u.1) (sym one.2) (reaches z.1 one.0 x le one.1) in
     let all : All (λ u. IsMember x u.1) parts.0 = All-from_recursion (λ u. IsMember x u.1) parts.0
-        (each-some (λ u. IsMember x u.1) (entry_some (λ e. fits e x)) step entries parts.0 parts.1) in
+    (each-some (λ u. IsMember x u.1) (entry_some (λ e. fits e x)) step entries parts.0 parts.1) in
     let out : out-Literal r ≡ Literal-F.Map parts.0 = ap out-Literal parts.2 ∙ view.outs-Map _ in
     subst (λ m. IsMapOf (IsMember x) m) (sym out) all
 entries-reach n r x _ reaches le e = cc
@@ -203,9 +202,9 @@ rule-reaches n l r t true reaches test le e =
     subst (λ x. IsMember t x) is ((is_of-Decides t l).0 test)
 rule-reaches n l r t false reaches test le e =
     let form : form_fits fits l (out-LiteralType t) ≡ Some r =
-        sym (fits-step l t ∙ ap (λ b. if b then Some l else form_fits fits l (out-LiteralType t)) test) ∙ e in
+    sym (fits-step l t ∙ ap (λ b. if b then Some l else form_fits fits l (out-LiteralType t)) test) ∙ e in
     subst (λ (P : Literal → Type 0). P r) (sym (IsMember-out t))
-        (form_reaches n l r (out-LiteralType t) reaches (omega (arith, type_levels-out t)) form)
+    (form_reaches n l r (out-LiteralType t) reaches (omega (arith, type_levels-out t)) form)
 
 reaches : (n : ℕ) → ReachesWithin n
 reaches zero l r t le e = absurd (omega (arith, type_levels-positive t))
@@ -228,7 +227,7 @@ pub plain-fits : (f : LiteralType → Option Literal) (ts : List LiteralType) (l
     → ((value : Literal) (variant : LiteralType) → l ≡ literal.Union value variant → ⊥) → union_fits f ts (out-Literal l) ≡ into_only f ts
 plain-fits f ts l h =
     plain-layer f ts (out-Literal l)
-        (λ value variant e. h value variant (sym (view.roll-out-Literal l) ∙ ap roll-Literal e ∙ view.rolls-Union value variant))
+    (λ value variant e. h value variant (sym (view.roll-out-Literal l) ∙ ap roll-Literal e ∙ view.rolls-Union value variant))
 
 pub is_some-copied : {X : Type 0} (o : Option (Bor X)) → is_some o ≡ is_some (option_copied o)
 is_some-copied None = refl

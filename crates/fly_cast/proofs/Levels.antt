@@ -1,5 +1,5 @@
 -- The levels of a type and of its parts.
-use Rattle.std.proofs.Common.{◌≡◌, ℕ, zero, suc, ◌+◌, ◌<◌, ◌≤◌, max, List, [], ◌∷◌, map, length, get_or, refl, sym, ◌∙◌, ap, subst, arith, inl, inr, Bool, filter, Some}
+use Rattle.std.proofs.Common.{◌≡◌, ℕ, zero, suc, ◌+◌, ◌<◌, ◌≤◌, List, [], ◌∷◌, map, length, get_or, sym, ◌∙◌, ap, subst, arith, inl, inr, Bool, filter, Some}
 use Rattle.std.specs.List.{AllByRecursion as Each}
 use Rattle.fly_types.specs.declared.kinds.LiteralType.{LiteralType, out-LiteralType, roll-LiteralType}
 use Rattle.fly_types.specs.declared.kinds.LiteralType.TheOpen.{LiteralType-F}

@@ -1,5 +1,5 @@
 -- Tests and lists.
-use Rattle.std.proofs.Common.{◌≡◌, ℕ, zero, suc, ◌+◌, ◌<◌, Bool, true, false, cond, Result, Ok, Err, Bor, ◌&&◌, ◌||◌, List, [], ◌∷◌, ◌++◌, length, get_or, take, drop, Option, Some, None, is_some, filter, Bor, refl, sym, ◌∙◌, ap, subst, inl, inr}
+use Rattle.std.proofs.Common.{◌≡◌, ℕ, ◌+◌, ◌<◌, Bool, true, false, cond, Result, Ok, Err, Bor, ◌&&◌, List, [], ◌∷◌, ◌++◌, length, get_or, take, drop, Option, Some, None, is_some, filter, Bor, refl, sym, ◌∙◌, ap, subst, inl, inr}
 use Rattle.std.proofs.lemmas.List.Elements.{filter_more, filter-append, filter_passes, All-head}
 use Rattle.std.proofs.lemmas.List.{take-append-drop}
 use Rattle.std.specs.Option.{option_to_list, option_copied}
@@ -27,10 +27,10 @@ pub two_pass : {X : Type 0} (p : X → Bool) (xs : List X) (i : ℕ) (x y : X) �
     → filter p (take i xs) ≡ y ∷ [] → None ≡ only (filter p xs)
 two_pass p xs i x y lt is passes before =
     let more : filter p (take (i + 1) xs) ≡ y ∷ x ∷ [] =
-        filter_more p xs i x lt ∙ ap (λ ys. ys ++ cond (p (get_or xs i x)) (get_or xs i x ∷ []) []) before
-        ∙ ap (λ z. y ∷ cond (p z) (z ∷ []) []) (sym is) ∙ ap (λ b. y ∷ cond b (x ∷ []) []) passes in
+    filter_more p xs i x lt ∙ ap (λ ys. ys ++ cond (p (get_or xs i x)) (get_or xs i x ∷ []) []) before
+    ∙ ap (λ z. y ∷ cond (p z) (z ∷ []) []) (sym is) ∙ ap (λ b. y ∷ cond b (x ∷ []) []) passes in
     let parts : filter p xs ≡ (y ∷ x ∷ []) ++ filter p (drop (i + 1) xs) =
-        ap (filter p) (sym (take-append-drop (i + 1) xs)) ∙ filter-append p (take (i + 1) xs) (drop (i + 1) xs) ∙ ap (λ ys. ys ++ filter p (drop (i + 1) xs)) more in
+    ap (filter p) (sym (take-append-drop (i + 1) xs)) ∙ filter-append p (take (i + 1) xs) (drop (i + 1) xs) ∙ ap (λ ys. ys ++ filter p (drop (i + 1) xs)) more in
     sym (ap only parts)
 
 -- what is there, where something is

@@ -1,9 +1,8 @@
 -- What each element of a list has, where each has something.
-use Rattle.std.proofs.Common.{◌≡◌, Bool, true, false, ◌&&◌, List, [], ◌∷◌, ◌++◌, filter, Option, Some, None, is_some, refl, sym, ◌∙◌, ap, subst}
+use Rattle.std.proofs.Common.{◌≡◌, Bool, ◌&&◌, List, [], ◌∷◌, ◌++◌, Option, Some, None, is_some, refl, sym, ◌∙◌, ap, subst}
 use Rattle.std.specs.Option.{option_map, option_and_then}
 use Rattle.std.specs.List.{list_all, AllByRecursion as Each}
-use Rattle.fly_types.specs.declared.text.Text.{Text}
-use Rattle.fly_cast.specs.Fit.{each_some, entry_some}
+use Rattle.fly_cast.specs.Fit.{each_some}
 
 pub map-some : {X Y : Type 0} (f : X → Y) (o : Option X) (y : Y) → option_map f o ≡ Some y → (x : X) × (o ≡ Some x) × (y ≡ f x)
 map-some f (Some x) y e = (x, refl, cc)

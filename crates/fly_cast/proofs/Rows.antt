@@ -1,6 +1,6 @@
 -- Worked rows of castability, conversion and fitting, on the definitions.
-use Rattle.std.proofs.Common.{◌≡◌, ℕ, Bool, true, false, cond, ◌&&◌, ◌||◌, if◌then◌else◌, List, [], ◌∷◌, filter, Ok, Err, Some, None, is_some, option_map, option_and_then, codes, refl, sym, ◌∙◌, ap, subst}
-use Rattle.std.specs.List.{All, Contains}
+use Rattle.std.proofs.Common.{◌≡◌, Bool, true, false, cond, ◌&&◌, ◌||◌, if◌then◌else◌, [], ◌∷◌, Ok, Err, Some, None, is_some, option_map, option_and_then, Option, codes, refl, sym, ◌∙◌, ap, subst}
+use Rattle.std.specs.List.{Contains}
 use Rattle.std.proofs.lemmas.List.Elements.{All-nil}
 use Rattle.fly_types.specs.declared.text.Text.{Text}
 use Rattle.fly_types.specs.declared.kinds.Simple.TheVariants as simple
@@ -19,36 +19,36 @@ use Rattle.fly_types.proofs.Member.{IsMemberAt, IsMember-out}
 use Rattle.fly_cast.specs.Castable.{only, form_casts, castable}
 use Rattle.fly_cast.specs.Convert.{text_converts, form_converts, converted}
 use Rattle.fly_cast.specs.Decided.{is_among-Decides, is_of, is_of-Decides}
-use Rattle.fly_cast.specs.Fit.{union_fits, form_fits, fits}
+use Rattle.fly_cast.specs.Fit.{into_only, union_fits, form_fits, fits}
 use Rattle.fly_cast.proofs.Casts.{castable-step, castable-itself}
-use Rattle.fly_cast.proofs.Converts.{converted-step, converted-itself, member-as}
+use Rattle.fly_cast.proofs.Converts.{converted-step, converted-itself}
 use Rattle.fly_cast.proofs.Fits.{fits-step, fits-itself}
 
-int : LiteralType
+abbrev int : LiteralType
 int = type.Simple simple.Integer
 
-string : LiteralType
+abbrev string : LiteralType
 string = type.Simple simple.Text
 
-none : LiteralType
+abbrev none : LiteralType
 none = type.Simple simple.None
 
-red : Text
+abbrev red : Text
 red = codes "red"
 
-green : Text
+abbrev green : Text
 green = codes "green"
 
-blue : Text
+abbrev blue : Text
 blue = codes "blue"
 
-colours : LiteralType
+abbrev colours : LiteralType
 colours = type.Enum (red ∷ green ∷ [])
 
-only_red : LiteralType
+abbrev only_red : LiteralType
 only_red = type.Enum (red ∷ [])
 
-or : LiteralType → LiteralType → LiteralType
+abbrev or : LiteralType → LiteralType → LiteralType
 or a b = type.Union (a ∷ b ∷ [])
 
 -- ---- by the rules
@@ -63,6 +63,9 @@ not-same a b p q false same ea eb differ = refl
 
 differ : (a b : LiteralType) (p q : TypeLayer) → out-LiteralType a ≡ p → out-LiteralType b ≡ q → (p ≡ q → ⊥) → same_type a b ≡ false
 differ a b p q ea eb d = not-same a b p q (same_type a b) refl ea eb d
+
+two_types : (a b : LiteralType) (p q : TypeLayer) → out-LiteralType a ≡ p → out-LiteralType b ≡ q → (p ≡ q → ⊥) → a ≡ b → ⊥
+two_types a b p q ea eb d e = d (sym ea ∙ ap out-LiteralType e ∙ eb)
 
 by_form : (a b : LiteralType) (p q : TypeLayer) → out-LiteralType a ≡ p → out-LiteralType b ≡ q
     → castable a b ≡ (same_type a b || form_casts castable a b p q)
@@ -86,7 +89,131 @@ converts l a b p q ea eb d at =
 
 -- the type union(STRING, enum red) to STRING
 a_union_of_texts_casts : castable (or string only_red) string ≡ true
-unfolding string only_red or
 a_union_of_texts_casts =
     let enum : castable only_red string ≡ true = casts only_red string _ _ (type_view.outs-Enum _) (type_view.outs-Simple _) refl in
     casts (or string only_red) string _ _ (type_view.outs-Union _) (type_view.outs-Simple _) (λ i. castable-itself string i && (enum i && true))
+
+-- the type union(STRING, INTEGER) to STRING
+a_union_with_another_type_does_not_cast : castable (or string int) string ≡ false
+a_union_with_another_type_does_not_cast =
+    let integer : castable int string ≡ false = does_not_cast int string _ _ (type_view.outs-Simple _) (type_view.outs-Simple _) (λ e. cc) refl in
+    does_not_cast (or string int) string _ _ (type_view.outs-Union _) (type_view.outs-Simple _) (λ e. cc) (λ i. castable-itself string i && (integer i && true))
+
+-- the type INTEGER to union(INTEGER, INTEGER)
+two_variants_take_it : castable int (or int int) ≡ false
+two_variants_take_it =
+    does_not_cast int (or int int) _ _ (type_view.outs-Simple _) (type_view.outs-Union _) (λ e. cc)
+    (ap (λ b. is_some (only (cond b (int ∷ cond b (int ∷ []) []) (cond b (int ∷ []) [])))) (castable-itself int))
+
+-- the type [NONE] to [INTEGER]
+a_list_of_none_does_not_cast : castable (type.Collection none) (type.Collection int) ≡ false
+a_list_of_none_does_not_cast =
+    let element : castable none int ≡ false = does_not_cast none int _ _ (type_view.outs-Simple _) (type_view.outs-Simple _) (λ e. cc) refl in
+    does_not_cast (type.Collection none) (type.Collection int) _ _ (type_view.outs-Collection _) (type_view.outs-Collection _)
+    (λ e. let same : none ≡ int = cc in two_types none int _ _ (type_view.outs-Simple _) (type_view.outs-Simple _) (λ d. cc) same)
+    element
+
+-- ---- conversion
+
+-- Integer 3 of INTEGER to INTEGER
+an_integer_stays : (three : _) → converted (literal.Integer three) int int ≡ Ok (literal.Integer three)
+an_integer_stays three = converted-itself (literal.Integer three) int
+
+-- Union(Text `red`, STRING) of union(STRING, enum red) to the same union
+a_union_scalar_stays : converted (literal.Union (literal.Text red) string) (or string only_red) (or string only_red) ≡ Ok (literal.Union (literal.Text red) string)
+a_union_scalar_stays = converted-itself (literal.Union (literal.Text red) string) (or string only_red)
+
+-- Text `red` of enum red, green to STRING
+an_enum_value_is_a_text : converted (literal.Text red) colours string ≡ Ok (literal.Text red)
+an_enum_value_is_a_text =
+    converts (literal.Text red) colours string _ _ (type_view.outs-Enum _) (type_view.outs-Simple _) (λ e. cc)
+    (subst (λ m. IsTextAmong (red ∷ green ∷ []) m) (sym (view.outs-Text red)) ((is_among-Decides (red ∷ green ∷ []) red).0 refl))
+
+is_text : (text : Text) → IsMemberAt (LiteralType-F.Simple simple.Text) (literal.Text text)
+is_text text = ap simple_type (view.outs-Text text)
+
+-- Text `red` of STRING to enum red, green
+a_value_of_the_enum_stays : converted (literal.Text red) string colours ≡ Ok (literal.Text red)
+a_value_of_the_enum_stays =
+    converts (literal.Text red) string colours _ _ (type_view.outs-Simple _) (type_view.outs-Enum _) (λ e. cc) (is_text red)
+    ∙ ap (text_converts (red ∷ green ∷ []) (literal.Text red)) (view.outs-Text red)
+
+-- Text `blue` of STRING to enum red, green
+a_foreign_text_is_named : converted (literal.Text blue) string colours ≡ Err blue
+a_foreign_text_is_named =
+    converts (literal.Text blue) string colours _ _ (type_view.outs-Simple _) (type_view.outs-Enum _) (λ e. cc) (is_text blue)
+    ∙ ap (text_converts (red ∷ green ∷ []) (literal.Text blue)) (view.outs-Text blue)
+
+-- ---- fitting
+
+not-of : (l : Literal) (t : LiteralType) (b : Bool) → is_of t l ≡ b → (IsMember t l → ⊥) → b ≡ false
+not-of l t true e n = absurd (n ((is_of-Decides t l).0 e))
+not-of l t false e n = refl
+
+fits_form : (l : Literal) (t : LiteralType) (q : TypeLayer) → out-LiteralType t ≡ q → (IsMemberAt q l → ⊥) → fits l t ≡ form_fits fits l q
+fits_form l t q e n =
+    let other : is_of t l ≡ false =
+    not-of l t (is_of t l) refl (λ h. n (subst (λ (P : Literal → Type 0). P l) (IsMember-out t ∙ ap IsMemberAt e) h)) in
+    fits-step l t ∙ ap (λ b. if b then Some l else form_fits fits l (out-LiteralType t)) other ∙ ap (form_fits fits l) e
+
+member : (l : Literal) (t : LiteralType) (q : TypeLayer) → out-LiteralType t ≡ q → IsMemberAt q l → IsMember t l
+member l t q e h = subst (λ (P : Literal → Type 0). P l) (sym (IsMember-out t ∙ ap IsMemberAt e)) h
+
+-- a plain literal into a union of two types, by what fits
+into_two : (l : Literal) (m : LiteralLayer) (a b : LiteralType) → out-Literal l ≡ m → (IsUnionWhere (λ variant value. IsVariant (a ∷ b ∷ []) variant value) m → ⊥)
+    → fits l (or a b) ≡ union_fits (fits l) (a ∷ b ∷ []) m
+into_two l m a b e n =
+    fits_form l (or a b) _ (type_view.outs-Union _)
+    (λ h. n (subst (λ m. IsUnionWhere (λ variant value. IsVariant (a ∷ b ∷ []) variant value) m) e h))
+    ∙ ap (union_fits (fits l) (a ∷ b ∷ [])) e
+
+both_fit : (f : LiteralType → Option Literal) (a b : LiteralType) (x y : Literal) → f a ≡ Some x → f b ≡ Some y → into_only f (a ∷ b ∷ []) ≡ None
+both_fit f a b x y e d =
+    let first : is_some (f a) ≡ true = ap is_some e in
+    let second : is_some (f b) ≡ true = ap is_some d in
+    λ i. option_and_then (λ t. option_map (λ value. literal.Union value t) (f t))
+    (only (cond (first i) (a ∷ cond (second i) (b ∷ []) []) (cond (second i) (b ∷ []) [])))
+
+one_fits : (f : LiteralType → Option Literal) (a b : LiteralType) (x : Literal) → f a ≡ Some x → f b ≡ None → into_only f (a ∷ b ∷ []) ≡ Some (literal.Union x a)
+one_fits f a b x e d =
+    let first : is_some (f a) ≡ true = ap is_some e in
+    let second : is_some (f b) ≡ false = ap is_some d in
+    let chosen : into_only f (a ∷ b ∷ []) ≡ option_map (λ value. literal.Union value a) (f a) =
+    λ i. option_and_then (λ t. option_map (λ value. literal.Union value t) (f t))
+    (only (cond (first i) (a ∷ cond (second i) (b ∷ []) []) (cond (second i) (b ∷ []) []))) in
+    chosen ∙ ap (option_map (λ value. literal.Union value a)) e
+
+abbrev empty : Literal
+empty = literal.Collection []
+
+-- the empty collection into union([INTEGER], [STRING]): two variants fit
+an_empty_list_fits_two : fits empty (or (type.Collection int) (type.Collection string)) ≡ None
+an_empty_list_fits_two =
+    let one : (x : LiteralType) → fits empty (type.Collection x) ≡ Some empty =
+    λ x. fits-itself empty (type.Collection x) (member empty (type.Collection x) _ (type_view.outs-Collection x)
+    (subst (λ m. IsCollectionOf (IsMember x) m) (sym (view.outs-Collection [])) (All-nil (IsMember x)))) in
+    into_two empty (Literal-F.Collection []) (type.Collection int) (type.Collection string) (view.outs-Collection []) (λ h. h)
+    ∙ both_fit (fits empty) (type.Collection int) (type.Collection string) empty empty (one int) (one string)
+
+-- Text `blue` into union(STRING, enum red): wrapped in STRING
+a_text_goes_into_string : fits (literal.Text blue) (or string only_red) ≡ Some (literal.Union (literal.Text blue) string)
+a_text_goes_into_string =
+    let into : fits (literal.Text blue) string ≡ Some (literal.Text blue) =
+    fits-itself (literal.Text blue) string (member (literal.Text blue) string _ (type_view.outs-Simple simple.Text) (is_text blue)) in
+    let not : fits (literal.Text blue) only_red ≡ None =
+    fits_form (literal.Text blue) only_red _ (type_view.outs-Enum (red ∷ []))
+    (λ h. let here : Contains (red ∷ []) blue = subst (λ m. IsTextAmong (red ∷ []) m) (view.outs-Text blue) h in
+    let among : false ≡ true = (is_among-Decides (red ∷ []) blue).1 here in cc) in
+    into_two (literal.Text blue) (Literal-F.Text blue) string only_red (view.outs-Text blue) (λ h. h)
+    ∙ one_fits (fits (literal.Text blue)) string only_red (literal.Text blue) into not
+
+-- Text `red` into union(STRING, enum red): two variants fit
+a_text_of_the_enum_fits_two : fits (literal.Text red) (or string only_red) ≡ None
+a_text_of_the_enum_fits_two =
+    let into : fits (literal.Text red) string ≡ Some (literal.Text red) =
+    fits-itself (literal.Text red) string (member (literal.Text red) string _ (type_view.outs-Simple simple.Text) (is_text red)) in
+    let too : fits (literal.Text red) only_red ≡ Some (literal.Text red) =
+    fits-itself (literal.Text red) only_red (member (literal.Text red) only_red _ (type_view.outs-Enum (red ∷ []))
+    (subst (λ m. IsTextAmong (red ∷ []) m) (sym (view.outs-Text red)) ((is_among-Decides (red ∷ []) red).0 refl))) in
+    into_two (literal.Text red) (Literal-F.Text red) string only_red (view.outs-Text red) (λ h. h)
+    ∙ both_fit (fits (literal.Text red)) string only_red (literal.Text red) (literal.Text red) into too

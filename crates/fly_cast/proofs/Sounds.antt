@@ -1,7 +1,7 @@
 -- What is converted or fitted stays sound.
 use Rattle.std.proofs.Common.{◌≡◌, ℕ, zero, suc, ◌+◌, ◌≤◌, Bool, true, false, ◌||◌, if◌then◌else◌, List, [], ◌∷◌, map, length, filter, Result, Ok, Err, Option, Some, None, is_some, IfOk, refl, sym, ◌∙◌, ap, subst, arith}
 use Rattle.std.specs.Option.{option_map, option_and_then}
-use Rattle.std.specs.List.{All, list_all, AllByRecursion as Each}
+use Rattle.std.specs.List.{list_all, AllByRecursion as Each}
 use Rattle.std.proofs.lemmas.List.{length-map}
 use Rattle.std.proofs.lemmas.List.Elements.{recursion_from_All, All-from_recursion}
 use Rattle.std.specs.List.Sorted.{IsStrictlySortedBy}
@@ -21,14 +21,14 @@ use Rattle.fly_types.specs.Layer.{TypeLayer, LiteralLayer}
 use Rattle.fly_types.specs.Levels.{type_levels, literal_levels, largest, max_levels}
 use Rattle.fly_types.specs.Membership.{IsMember, IsCollectionOf, IsMapOf, IsUnionWhere, IsVariant}
 use Rattle.fly_types.specs.Same.{same_type}
-use Rattle.fly_types.specs.Sound.{IsShort, AreNamesSorted, AreEntriesSound, IsTypeLayerSound, HasSoundTypeParts, IsSoundType, IsLiteralLayerSound, HasSoundParts, IsSound}
+use Rattle.fly_types.specs.Sound.{IsShort, AreEntriesSound, IsTypeLayerSound, HasSoundTypeParts, IsSoundType, IsLiteralLayerSound, HasSoundParts, IsSound}
 use Rattle.fly_types.proofs.LiteralTells.{LiteralsHeld}
 use Rattle.fly_types.proofs.TypeTells.{TypesHeld}
 use Rattle.fly_types.proofs.Member.{IsMemberAt}
 use Rattle.fly_cast.specs.declared.conversion.ConvertFault.{ConvertFault}
 use Rattle.fly_cast.specs.declared.fitting.FitFault.{FitFault}
 use Rattle.fly_cast.specs.Castable.{is_among, only, form_casts, castable}
-use Rattle.fly_cast.specs.Convert.{IsAnswer, result_map, each_ok, entry_ok, value_converts, into_variant, elements_convert, entries_convert, text_converts, plain_converts, form_converts, converted}
+use Rattle.fly_cast.specs.Convert.{IsAnswer, each_ok, entry_ok, value_converts, into_variant, elements_convert, entries_convert, text_converts, plain_converts, form_converts, converted}
 use Rattle.fly_cast.specs.Decided.{is_of}
 use Rattle.fly_cast.specs.Fit.{IsFitted, each_some, entry_some, elements_fit, entries_fit, union_fits, form_fits, fits}
 use Rattle.fly_cast.specs.Target.{IsTarget}
@@ -87,19 +87,19 @@ with_names P (x ∷ xs) h = let rest = with_names P xs h.1 in ((x.0, (x.1, h.0))
 sound-union : (value : Literal) (variant : LiteralType) → HasSoundParts value → IsSoundType variant → HasSoundParts (literal.Union value variant)
 sound-union value variant p s =
     subst HasSoundParts (view.rolls-Union value variant)
-        (every_made-Literal IsLiteralLayerSound (Literal-F.Union value variant) (Literal-F.Union (value, p) variant) refl s)
+    (every_made-Literal IsLiteralLayerSound (Literal-F.Union value variant) (Literal-F.Union (value, p) variant) refl s)
 
 sound-collection : (xs : List Literal) → Each HasSoundParts xs → IsShort xs → HasSoundParts (literal.Collection xs)
 sound-collection xs h s =
     let ys = with HasSoundParts xs h in
     subst HasSoundParts (view.rolls-Collection xs)
-        (every_made-Literal IsLiteralLayerSound (Literal-F.Collection xs) (Literal-F.Collection ys.0) (ap Literal-F.Collection ys.1) s)
+    (every_made-Literal IsLiteralLayerSound (Literal-F.Collection xs) (Literal-F.Collection ys.0) (ap Literal-F.Collection ys.1) s)
 
 sound-map : (xs : List (Text × Literal)) → Each (λ (x : Text × Literal). HasSoundParts x.1) xs → AreEntriesSound xs → HasSoundParts (literal.Map xs)
 sound-map xs h s =
     let ys = with_names HasSoundParts xs h in
     subst HasSoundParts (view.rolls-Map xs)
-        (every_made-Literal IsLiteralLayerSound (Literal-F.Map xs) (Literal-F.Map ys.0) (ap Literal-F.Map ys.1) s)
+    (every_made-Literal IsLiteralLayerSound (Literal-F.Map xs) (Literal-F.Map ys.0) (ap Literal-F.Map ys.1) s)
 
 -- entries under the same names as sound ones
 
@@ -162,7 +162,7 @@ into-sound n l r a ts (Some t) sounds which le member some e sound types low =
     let lt : type_levels t ≤ largest (map type_levels ts) = only-levels (castable a) ts t which in
     let tt' : HasSoundTypeParts t = only-has HasSoundTypeParts (castable a) ts t which types in
     let value : HasSoundParts parts.0 =
-        sounds l parts.0 a t (omega arith) member (only-passes (castable a) ts t which) parts.1 sound tt' (omega arith) in
+    sounds l parts.0 a t (omega arith) member (only-passes (castable a) ts t which) parts.1 sound tt' (omega arith) in
     let variant : IsSoundType t = record { parts = tt'; levels = omega arith } in
     subst HasSoundParts (sym parts.2) (sound-union parts.0 t value variant)
 
@@ -172,10 +172,10 @@ elements-sound : (n : ℕ) (l r : Literal) (x y : LiteralType) (m : LiteralLayer
 elements-sound n l r x y (Literal-F.Collection elements) sounds le h casts e here sound ty ly =
     let parts = map-ok literal.Collection (each_ok (λ z. converted z x y) elements) r e in
     let each : Each HasSoundParts parts.0 =
-        each-two (IsMember x) HasSoundParts HasSoundParts (λ z. converted z x y) (λ z w of s is. sounds z w x y le of casts is s ty ly) elements parts.0
-            (recursion_from_All (IsMember x) elements h) sound parts.1 in
+    each-two (IsMember x) HasSoundParts HasSoundParts (λ z. converted z x y) (λ z w of s is. sounds z w x y le of casts is s ty ly) elements parts.0
+    (recursion_from_All (IsMember x) elements h) sound parts.1 in
     subst HasSoundParts (sym parts.2)
-        (sound-collection parts.0 each (omega (arith, here, each_ok-length (λ z. converted z x y) elements parts.0 parts.1)))
+    (sound-collection parts.0 each (omega (arith, here, each_ok-length (λ z. converted z x y) elements parts.0 parts.1)))
 elements-sound n l r x y _ sounds le h casts e here sound ty ly = absurd h
 
 entries-sound : (n : ℕ) (l r : Literal) (x y : LiteralType) (m : LiteralLayer) → ConvertsWithin n → type_levels x + type_levels y ≤ n
@@ -184,13 +184,13 @@ entries-sound : (n : ℕ) (l r : Literal) (x y : LiteralType) (m : LiteralLayer)
 entries-sound n l r x y (Literal-F.Map entries) sounds le h casts e here sound ty ly =
     let parts = map-ok literal.Map (each_ok (entry_ok (λ z. converted z x y)) entries) r e in
     let step : (z w : Text × Literal) → IsMember x z.1 → HasSoundParts z.1 → entry_ok (λ v. converted v x y) z ≡ Ok w → HasSoundParts w.1 =
-        λ z w of s is. let one = map-ok (λ v. (z.0, v)) (converted z.1 x y) w is in
-            subst (λ (u : Text × Literal). HasSoundParts u.1) (sym one.2) (sounds z.1 one.0 x y le of casts one.1 s ty ly) in
+    λ z w of s is. let one = map-ok (λ v. (z.0, v)) (converted z.1 x y) w is in
+    subst (λ (u : Text × Literal). HasSoundParts u.1) (sym one.2) (sounds z.1 one.0 x y le of casts one.1 s ty ly) in
     let each : Each (λ (u : Text × Literal). HasSoundParts u.1) parts.0 =
-        each-two (λ u. IsMember x u.1) (λ u. HasSoundParts u.1) (λ u. HasSoundParts u.1) (entry_ok (λ z. converted z x y)) step entries parts.0
-            (recursion_from_All (λ u. IsMember x u.1) entries h) sound parts.1 in
+    each-two (λ u. IsMember x u.1) (λ u. HasSoundParts u.1) (λ u. HasSoundParts u.1) (entry_ok (λ z. converted z x y)) step entries parts.0
+    (recursion_from_All (λ u. IsMember x u.1) entries h) sound parts.1 in
     subst HasSoundParts (sym parts.2)
-        (sound-map parts.0 each (same-names entries parts.0 (each_ok-names (λ z. converted z x y) entries parts.0 parts.1) here))
+    (sound-map parts.0 each (same-names entries parts.0 (each_ok-names (λ z. converted z x y) entries parts.0 parts.1) here))
 entries-sound n l r x y _ sounds le h casts e here sound ty ly = absurd h
 
 if-same : (b : Bool) (l r : Literal) (text : Text) → (if b then Ok l else Err text) ≡ Ok r → l ≡ r
@@ -231,17 +231,17 @@ rule-sound : (n : ℕ) (l r : Literal) (a b : LiteralType) (s : Bool) → Conver
     → IsMember a l → castable a b ≡ true → converted l a b ≡ Ok r → HasSoundParts l → HasSoundTypeParts b → type_levels b ≤ max_levels + 1 → HasSoundParts r
 rule-sound n l r a b true sounds same le member casts e sound tb lb =
     let stays : converted l a b ≡ Ok l = converted-step l a b member
-        ∙ ap (λ s. if s then Ok l else form_converts converted l a b (out-LiteralType a) (out-LiteralType b)) same in
+    ∙ ap (λ s. if s then Ok l else form_converts converted l a b (out-LiteralType a) (out-LiteralType b)) same in
     let is : l ≡ r = cc in
     subst HasSoundParts is sound
 rule-sound n l r a b false sounds same le member casts e sound tb lb =
     let cast : form_casts castable a b (out-LiteralType a) (out-LiteralType b) ≡ true =
-        sym (castable-step a b ∙ ap (λ s. s || form_casts castable a b (out-LiteralType a) (out-LiteralType b)) same) ∙ casts in
+    sym (castable-step a b ∙ ap (λ s. s || form_casts castable a b (out-LiteralType a) (out-LiteralType b)) same) ∙ casts in
     let conv : form_converts converted l a b (out-LiteralType a) (out-LiteralType b) ≡ Ok r =
-        sym (converted-step l a b member
-            ∙ ap (λ s. if s then Ok l else form_converts converted l a b (out-LiteralType a) (out-LiteralType b)) same) ∙ e in
+    sym (converted-step l a b member
+    ∙ ap (λ s. if s then Ok l else form_converts converted l a b (out-LiteralType a) (out-LiteralType b)) same) ∙ e in
     form-sound n l r a b (out-LiteralType a) (out-LiteralType b) sounds member (member-at a l member) (type_levels-out a) (type_levels-out b)
-        (omega (arith, type_levels-out a, type_levels-out b)) cast conv sound tb (types-held b tb) lb
+    (omega (arith, type_levels-out a, type_levels-out b)) cast conv sound tb (types-held b tb) lb
 
 converts-sound : (n : ℕ) → ConvertsWithin n
 converts-sound zero l r a b le member casts e sound tb lb = absurd (omega (arith, type_levels-positive a))
@@ -309,7 +309,7 @@ elements-fit-sound : (n : ℕ) (r : Literal) (x : LiteralType) (m : LiteralLayer
 elements-fit-sound n r x (Literal-F.Collection elements) sounds le e here sound tx lx =
     let parts = map-some literal.Collection (each_some (λ z. fits z x) elements) r e in
     let each : Each HasSoundParts parts.0 =
-        each-fits HasSoundParts HasSoundParts (λ z. fits z x) (λ z w s is. sounds z w x le is s tx lx) elements parts.0 sound parts.1 in
+    each-fits HasSoundParts HasSoundParts (λ z. fits z x) (λ z w s is. sounds z w x le is s tx lx) elements parts.0 sound parts.1 in
     subst HasSoundParts (sym parts.2) (sound-collection parts.0 each (omega (arith, here, each_some-length (λ z. fits z x) elements parts.0 parts.1)))
 elements-fit-sound n r x _ sounds le e here sound tx lx = cc
 
@@ -319,12 +319,12 @@ entries-fit-sound : (n : ℕ) (r : Literal) (x : LiteralType) (m : LiteralLayer)
 entries-fit-sound n r x (Literal-F.Map entries) sounds le e here sound tx lx =
     let parts = map-some literal.Map (each_some (entry_some (λ z. fits z x)) entries) r e in
     let step : (z w : Text × Literal) → HasSoundParts z.1 → entry_some (λ v. fits v x) z ≡ Some w → HasSoundParts w.1 =
-        λ z w s is. let one = map-some (λ v. (z.0, v)) (fits z.1 x) w is in
-            subst (λ (u : Text × Literal). HasSoundParts u.1) (sym one.2) (sounds z.1 one.0 x le one.1 s tx lx) in
+    λ z w s is. let one = map-some (λ v. (z.0, v)) (fits z.1 x) w is in
+    subst (λ (u : Text × Literal). HasSoundParts u.1) (sym one.2) (sounds z.1 one.0 x le one.1 s tx lx) in
     let each : Each (λ (u : Text × Literal). HasSoundParts u.1) parts.0 =
-        each-fits (λ u. HasSoundParts u.1) (λ u. HasSoundParts u.1) (entry_some (λ z. fits z x)) step entries parts.0 sound parts.1 in
+    each-fits (λ u. HasSoundParts u.1) (λ u. HasSoundParts u.1) (entry_some (λ z. fits z x)) step entries parts.0 sound parts.1 in
     subst HasSoundParts (sym parts.2)
-        (sound-map parts.0 each (same-names entries parts.0 (each_some-names (λ z. fits z x) entries parts.0 parts.1) here))
+    (sound-map parts.0 each (same-names entries parts.0 (each_some-names (λ z. fits z x) entries parts.0 parts.1) here))
 entries-fit-sound n r x _ sounds le e here sound tx lx = cc
 
 form-fit-sound : (n : ℕ) (l r : Literal) (q : TypeLayer) → FitsWithin n → layer_levels q ≤ n + 1 → form_fits fits l q ≡ Some r
@@ -344,7 +344,7 @@ rule-fit-sound n l r t true sounds test le e sound tp low =
     subst HasSoundParts is sound
 rule-fit-sound n l r t false sounds test le e sound tp low =
     let form : form_fits fits l (out-LiteralType t) ≡ Some r =
-        sym (fits-step l t ∙ ap (λ b. if b then Some l else form_fits fits l (out-LiteralType t)) test) ∙ e in
+    sym (fits-step l t ∙ ap (λ b. if b then Some l else form_fits fits l (out-LiteralType t)) test) ∙ e in
     form-fit-sound n l r (out-LiteralType t) sounds (omega (arith, type_levels-out t)) form sound (types-held t tp) (omega (arith, type_levels-out t))
 
 fits-sound : (n : ℕ) → FitsWithin n

@@ -1,7 +1,7 @@
 -- A converted literal is of the target type.
-use Rattle.std.proofs.Common.{◌≡◌, ◌⊎◌, ℕ, zero, suc, ◌+◌, ◌≤◌, Bool, true, false, ◌&&◌, ◌||◌, if◌then◌else◌, List, [], ◌∷◌, get_or, map, filter, Result, Ok, Err, Option, Some, None, is_some, refl, sym, ◌∙◌, ap, subst, IfOk, arith, inl, inr}
+use Rattle.std.proofs.Common.{◌≡◌, ℕ, zero, suc, ◌+◌, ◌≤◌, Bool, true, false, ◌&&◌, ◌||◌, if◌then◌else◌, List, [], ◌∷◌, get_or, map, filter, Result, Ok, Err, Option, Some, None, is_some, refl, sym, ◌∙◌, ap, subst, IfOk, arith, inl, inr}
 use Rattle.std.specs.Str.{bytes_eq}
-use Rattle.std.specs.List.{All, Contains, list_all, list_any, AllByRecursion as Each}
+use Rattle.std.specs.List.{All, Contains, list_all, AllByRecursion as Each}
 use Rattle.std.proofs.lemmas.List.Elements.{recursion_from_All, All-from_recursion, All-contains}
 use Rattle.std.proofs.lemmas.List.Folds.{Any-from_list_any, list_any_at}
 use Rattle.std.proofs.lemmas.Slice.Eq.{bytes_eq-Decides}
@@ -14,13 +14,13 @@ use Rattle.fly_types.specs.declared.literals.Literal.TheOpen.{Literal-F}
 use Rattle.fly_types.specs.declared.literals.Literal.TheVariants as literal
 use Rattle.fly_types.specs.declared.literals.Literal.TheViews as view
 use Rattle.fly_types.specs.Layer.{TypeLayer, LiteralLayer}
-use Rattle.fly_types.specs.Membership.{IsMember, IsCollectionOf, IsMapOf, IsUnionWhere, IsTextAmong, IsVariant, Some_of, simple_type}
+use Rattle.fly_types.specs.Membership.{IsMember, IsCollectionOf, IsMapOf, IsUnionWhere, IsTextAmong, IsVariant, simple_type}
 use Rattle.fly_types.specs.Same.{same_type, same_type-Decides}
 use Rattle.fly_types.specs.Levels.{type_levels, largest}
 use Rattle.fly_types.proofs.Member.{IsMemberAt, IsMember-out}
 use Rattle.fly_cast.specs.Castable.{is_among, only, enum_casts, form_casts, castable}
 use Rattle.fly_cast.specs.declared.conversion.ConvertFault.{ConvertFault}
-use Rattle.fly_cast.specs.Convert.{IsAnswer, Converted, result_map, ahead_of, each_ok, entry_ok, value_converts, into_variant, elements_convert, entries_convert, text_converts, plain_converts, form_converts, converted}
+use Rattle.fly_cast.specs.Convert.{IsAnswer, result_map, each_ok, entry_ok, value_converts, into_variant, elements_convert, entries_convert, text_converts, plain_converts, form_converts, converted}
 use Rattle.fly_cast.proofs.Levels.{layer_levels, type_levels-out, type_levels-positive, variant-of, only-levels}
 use Rattle.fly_cast.proofs.Lists.{only-has, only-passes, some_each, ahead_of-ok}
 use Rattle.fly_cast.proofs.Casts.{castable-step}
@@ -89,8 +89,8 @@ into_union n l r a ts (Some t) reaches which le member some e =
     let low : type_levels t ≤ largest (map type_levels ts) = only-levels (castable a) ts t which in
     let of : IsMember t parts.0 = reaches l parts.0 a t (omega arith) member (only-passes (castable a) ts t which) parts.1 in
     let there : IsVariant ts t parts.0 =
-        only-has (λ s. (t ≡ s) × IsMember s parts.0 → IsVariant ts t parts.0) (castable a) ts t which
-            (some_each (λ s. (t ≡ s) × IsMember s parts.0) ts) (refl, of) in
+    only-has (λ s. (t ≡ s) × IsMember s parts.0 → IsVariant ts t parts.0) (castable a) ts t which
+    (some_each (λ s. (t ≡ s) × IsMember s parts.0) ts) (refl, of) in
     let out : out-Literal r ≡ Literal-F.Union parts.0 t = ap out-Literal parts.2 ∙ view.outs-Union _ _ in
     subst (λ m. IsUnionWhere (λ variant value. IsVariant ts variant value) m) (sym out) there
 
@@ -99,8 +99,8 @@ elements-reach : (n : ℕ) (l r : Literal) (x y : LiteralType) (m : LiteralLayer
 elements-reach n l r x y (Literal-F.Collection elements) reaches le h casts e =
     let parts = map-ok literal.Collection (each_ok (λ z. converted z x y) elements) r e in
     let all : All (IsMember y) parts.0 = All-from_recursion (IsMember y) parts.0
-        (each-ok (IsMember x) (IsMember y) (λ z. converted z x y) (λ z w of is. reaches z w x y le of casts is) elements parts.0
-            (recursion_from_All (IsMember x) elements h) parts.1) in
+    (each-ok (IsMember x) (IsMember y) (λ z. converted z x y) (λ z w of is. reaches z w x y le of casts is) elements parts.0
+    (recursion_from_All (IsMember x) elements h) parts.1) in
     let out : out-Literal r ≡ Literal-F.Collection parts.0 = ap out-Literal parts.2 ∙ view.outs-Collection _ in
     subst (λ m. IsCollectionOf (IsMember y) m) (sym out) all
 elements-reach n l r x y _ reaches le h casts e = absurd h
@@ -110,11 +110,11 @@ entries-reach : (n : ℕ) (l r : Literal) (x y : LiteralType) (m : LiteralLayer)
 entries-reach n l r x y (Literal-F.Map entries) reaches le h casts e =
     let parts = map-ok literal.Map (each_ok (entry_ok (λ z. converted z x y)) entries) r e in
     let step : (z w : Text × Literal) → IsMember x z.1 → entry_ok (λ v. converted v x y) z ≡ Ok w → IsMember y w.1 =
-        λ z w of is. let one = map-ok (λ v. (z.0, v)) (converted z.1 x y) w is in
-            subst (λ (u : Text × Literal). IsMember y u.1) (sym one.2) (reaches z.1 one.0 x y le of casts one.1) in
+    λ z w of is. let one = map-ok (λ v. (z.0, v)) (converted z.1 x y) w is in
+    subst (λ (u : Text × Literal). IsMember y u.1) (sym one.2) (reaches z.1 one.0 x y le of casts one.1) in
     let all : All (λ u. IsMember y u.1) parts.0 = All-from_recursion (λ u. IsMember y u.1) parts.0
-        (each-ok (λ u. IsMember x u.1) (λ u. IsMember y u.1) (entry_ok (λ z. converted z x y)) step entries parts.0
-            (recursion_from_All (λ u. IsMember x u.1) entries h) parts.1) in
+    (each-ok (λ u. IsMember x u.1) (λ u. IsMember y u.1) (entry_ok (λ z. converted z x y)) step entries parts.0
+    (recursion_from_All (λ u. IsMember x u.1) entries h) parts.1) in
     let out : out-Literal r ≡ Literal-F.Map parts.0 = ap out-Literal parts.2 ∙ view.outs-Map _ in
     subst (λ m. IsMapOf (IsMember y) m) (sym out) all
 entries-reach n l r x y _ reaches le h casts e = absurd h
@@ -128,7 +128,7 @@ enum-text values _ h = absurd h
 enum-enum : (values others : List Text) (m : LiteralLayer) → list_all (is_among others) values ≡ true → IsTextAmong values m → IsTextAmong others m
 enum-enum values others (Literal-F.Text text) e h =
     among-contains others text (All-contains (λ v. is_among others v ≡ true) values text
-        (All-from_recursion (λ v. is_among others v ≡ true) values (list_all-each (is_among others) values e)) h)
+    (All-from_recursion (λ v. is_among others v ≡ true) values (list_all-each (is_among others) values e)) h)
 enum-enum values others _ e h = absurd h
 
 checked-text : (values : List Text) (l r : Literal) (text : Text) (b : Bool) → out-Literal l ≡ Literal-F.Text text → is_among values text ≡ b
@@ -184,17 +184,17 @@ rule-reaches : (n : ℕ) (l r : Literal) (a b : LiteralType) (s : Bool) → Reac
 rule-reaches n l r a b true reaches same le member casts e =
     let one : a ≡ b = (same_type-Decides a b).0 same in
     let stays : converted l a b ≡ Ok l = converted-step l a b member
-        ∙ ap (λ s. if s then Ok l else form_converts converted l a b (out-LiteralType a) (out-LiteralType b)) same in
+    ∙ ap (λ s. if s then Ok l else form_converts converted l a b (out-LiteralType a) (out-LiteralType b)) same in
     let is : l ≡ r = cc in
     subst (λ x. IsMember b x) is (subst (λ t. IsMember t l) one member)
 rule-reaches n l r a b false reaches same le member casts e =
     let cast : form_casts castable a b (out-LiteralType a) (out-LiteralType b) ≡ true =
-        sym (castable-step a b ∙ ap (λ s. s || form_casts castable a b (out-LiteralType a) (out-LiteralType b)) same) ∙ casts in
+    sym (castable-step a b ∙ ap (λ s. s || form_casts castable a b (out-LiteralType a) (out-LiteralType b)) same) ∙ casts in
     let conv : form_converts converted l a b (out-LiteralType a) (out-LiteralType b) ≡ Ok r =
-        sym (converted-step l a b member
-            ∙ ap (λ s. if s then Ok l else form_converts converted l a b (out-LiteralType a) (out-LiteralType b)) same) ∙ e in
+    sym (converted-step l a b member
+    ∙ ap (λ s. if s then Ok l else form_converts converted l a b (out-LiteralType a) (out-LiteralType b)) same) ∙ e in
     form_reaches n l r a b (out-LiteralType a) (out-LiteralType b) reaches member (member-at a l member) (IsMember-out b) (type_levels-out a) (type_levels-out b)
-        (omega (arith, type_levels-out a, type_levels-out b)) cast conv
+    (omega (arith, type_levels-out a, type_levels-out b)) cast conv
 
 reaches : (n : ℕ) → ReachesWithin n
 reaches zero l r a b le member casts e = absurd (omega (arith, type_levels-positive a))

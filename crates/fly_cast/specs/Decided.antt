@@ -1,10 +1,10 @@
 -- Membership is decided: `is_of` is true exactly of members, since it is the outcome of a decision.
 use mathlib.Core.Bool.{true≢false}
-use Rattle.std.specs.Prelude.{◌≡◌, ◌⊎◌, Bool, true, false, List, [], ◌∷◌, Option, Some, None, map, refl}
+use Rattle.std.specs.Prelude.{◌≡◌, ◌⊎◌, Bool, true, false, List, [], ◌∷◌, Some, map, refl}
 use Rattle.std.proofs.Common.{sym, subst, inl, inr}
 use Rattle.std.specs.Bool.{Decides}
 use Rattle.std.specs.Str.{bytes_eq}
-use Rattle.std.specs.Coded.{Coded, coded_option}
+use Rattle.std.specs.Coded.{coded_option}
 use Rattle.std.specs.List.{All, Contains, list_any, AllByRecursion as Each}
 use Rattle.std.proofs.lemmas.Bool.Decides.{Decides-by_or, Decides-like}
 use Rattle.std.proofs.lemmas.List.Elements.{All-from_recursion, recursion_from_All, Decides-contains}
@@ -18,7 +18,7 @@ use Rattle.fly_types.specs.declared.literals.Literal.TheOpen.{Literal-F}
 use Rattle.fly_types.specs.declared.kinds.BlobType.{BlobType}
 use Rattle.fly_types.specs.contracts.kinds.Simple as simple
 use Rattle.fly_types.specs.contracts.kinds.BlobType as blob
-use Rattle.fly_types.specs.Layer.{TypeLayer, LiteralLayer}
+use Rattle.fly_types.specs.Layer.{LiteralLayer}
 use Rattle.fly_types.specs.Equal.{equal, equal-Decides}
 use Rattle.fly_types.specs.Same.{same_type, same_type-Decides}
 use Rattle.fly_types.specs.Membership.{IsMember, IsCollectionOf, IsMapOf, IsBlobOf, IsTextAmong, IsUnionWhere, Some_of, simple_type}
@@ -66,8 +66,8 @@ all P d xs = all-from (each P d xs)
 pub is_among-Decides : (values : List Text) (text : Text) → Decides (is_among values text) (Contains values text)
 is_among-Decides values text =
     Decides-contains values text (is_among values text)
-        (Decides-by_or (bytes_eq text) (λ v. v ≡ text) (list_any (bytes_eq text))
-            (λ v. Decides-like (bytes_eq text v) sym sym (bytes_eq-Decides text v)) refl (λ _ _. refl) values)
+    (Decides-by_or (bytes_eq text) (λ v. v ≡ text) (list_any (bytes_eq text))
+    (λ v. Decides-like (bytes_eq text v) sym sym (bytes_eq-Decides text v)) refl (λ _ _. refl) values)
 
 -- ---- the cases of a type
 

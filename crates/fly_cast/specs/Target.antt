@@ -1,5 +1,5 @@
 -- The types to which literals are converted and fitted.
-use Rattle.std.specs.Prelude.{ℕ, ◌+◌, ◌≤◌}
+use Rattle.std.specs.Prelude.{◌+◌, ◌≤◌}
 use Rattle.fly_types.specs.declared.kinds.LiteralType.{LiteralType}
 use Rattle.fly_types.specs.Levels.{max_levels, type_levels}
 use Rattle.fly_types.specs.Sound.{HasSoundTypeParts}

@@ -54,7 +54,10 @@ fn do_all_cast(variants: &[LiteralType], b: &LiteralType) -> bool
 
 /// The one variant to which `a` is castable. None where there are two, or none.
 #[cycle(castable)]
-pub(crate) fn only_taker<'a>(a: &LiteralType, variants: &'a [LiteralType]) -> Option<&'a LiteralType>
+pub(crate) fn only_taker<'a>(
+    a: &LiteralType,
+    variants: &'a [LiteralType],
+) -> Option<&'a LiteralType>
     ensures { option_copied result ≡ only (filter (castable a.now) variants.now) }
 {
     let mut taker = None;

@@ -16,14 +16,17 @@ use std::alloc::{AllocError, AllocFailed, Global};
 #[derive(Debug, Drop, PartialEq, Eq)]
 pub enum ConvertFault {
     /// A text that no value of its target enum is: the first one in element order.
-    EnumOutside {
-        text: Text,
-    },
+    EnumOutside { text: Text },
     NoMemory,
 }
 
 /// The literal of type `a` as one of type `b`. It is moved, and no part that stays is copied.
-pub fn convert(alloc: Global, literal: Literal, a: &LiteralType, b: &LiteralType) -> Result<Literal, ConvertFault>
+pub fn convert(
+    alloc: Global,
+    literal: Literal,
+    a: &LiteralType,
+    b: &LiteralType,
+) -> Result<Literal, ConvertFault>
     requires member { IsMember a.now literal }
     requires castable { IsTrue (castable a.now b.now) }
     ensures value { IsAnswer (converted literal a.now b.now) result }
@@ -34,7 +37,12 @@ pub fn convert(alloc: Global, literal: Literal, a: &LiteralType, b: &LiteralType
 }
 
 #[cycle(convert)]
-fn convert_by_rule(alloc: Global, literal: Literal, a: &LiteralType, b: &LiteralType) -> Result<Literal, ConvertFault>
+fn convert_by_rule(
+    alloc: Global,
+    literal: Literal,
+    a: &LiteralType,
+    b: &LiteralType,
+) -> Result<Literal, ConvertFault>
     requires { IsMember a.now literal }
     ensures { IsAnswer (converted literal a.now b.now) result }
 {
@@ -46,13 +54,23 @@ fn convert_by_rule(alloc: Global, literal: Literal, a: &LiteralType, b: &Literal
 
 /// By the first rule for two types that differ.
 #[cycle(convert)]
-fn convert_form(alloc: Global, literal: Literal, a: &LiteralType, b: &LiteralType) -> Result<Literal, ConvertFault>
+fn convert_form(
+    alloc: Global,
+    literal: Literal,
+    a: &LiteralType,
+    b: &LiteralType,
+) -> Result<Literal, ConvertFault>
     requires { IsMember a.now literal }
     ensures { IsAnswer (form_converts converted literal a.now b.now (out-LiteralType a.now) (out-LiteralType b.now)) result }
 {
     if let LiteralType::Union(_) = a {
         return match literal {
-            Literal::Union { value, variant } => convert_by_rule(alloc, value.into_inner(), variant.get(), b),
+            Literal::Union { value, variant } => convert_by_rule(
+                alloc,
+                value.into_inner(),
+                variant.get(),
+                b,
+            ),
             other => Ok(other),
         };
     }
@@ -77,7 +95,12 @@ fn convert_form(alloc: Global, literal: Literal, a: &LiteralType, b: &LiteralTyp
 }
 
 #[cycle(convert)]
-fn convert_into_union(alloc: Global, literal: Literal, a: &LiteralType, variants: &[LiteralType]) -> Result<Literal, ConvertFault>
+fn convert_into_union(
+    alloc: Global,
+    literal: Literal,
+    a: &LiteralType,
+    variants: &[LiteralType],
+) -> Result<Literal, ConvertFault>
     requires { IsMember a.now literal }
     ensures { IsAnswer (into_variant (converted literal a.now) literal (only (filter (castable a.now) variants.now))) result }
 {
@@ -93,7 +116,12 @@ fn convert_into_union(alloc: Global, literal: Literal, a: &LiteralType, variants
 }
 
 #[cycle(convert)]
-fn convert_collection(alloc: Global, literal: Literal, from: &LiteralType, to: &LiteralType) -> Result<Literal, ConvertFault>
+fn convert_collection(
+    alloc: Global,
+    literal: Literal,
+    from: &LiteralType,
+    to: &LiteralType,
+) -> Result<Literal, ConvertFault>
     requires { IsCollectionOf (IsMember from.now) (out-Literal literal) }
     ensures { IsAnswer (elements_convert (λ element. converted element from.now to.now) literal (out-Literal literal)) result }
 {
@@ -107,7 +135,12 @@ fn convert_collection(alloc: Global, literal: Literal, from: &LiteralType, to: &
 }
 
 #[cycle(convert)]
-fn convert_elements(alloc: Global, elements: Vec<Literal>, from: &LiteralType, to: &LiteralType) -> Result<List<Literal>, ConvertFault>
+fn convert_elements(
+    alloc: Global,
+    elements: Vec<Literal>,
+    from: &LiteralType,
+    to: &LiteralType,
+) -> Result<List<Literal>, ConvertFault>
     requires { All (IsMember from.now) elements.items }
     ensures { IsAnswer (each_ok (λ element. converted element from.now to.now) elements.items) result }
 {
@@ -119,7 +152,12 @@ fn convert_elements(alloc: Global, elements: Vec<Literal>, from: &LiteralType, t
 }
 
 #[cycle(convert)]
-fn convert_map(alloc: Global, literal: Literal, from: &LiteralType, to: &LiteralType) -> Result<Literal, ConvertFault>
+fn convert_map(
+    alloc: Global,
+    literal: Literal,
+    from: &LiteralType,
+    to: &LiteralType,
+) -> Result<Literal, ConvertFault>
     requires { IsMapOf (IsMember from.now) (out-Literal literal) }
     ensures { IsAnswer (entries_convert (λ value. converted value from.now to.now) literal (out-Literal literal)) result }
 {
@@ -133,7 +171,12 @@ fn convert_map(alloc: Global, literal: Literal, from: &LiteralType, to: &Literal
 }
 
 #[cycle(convert)]
-fn convert_entries(alloc: Global, entries: Vec<(Text, Literal)>, from: &LiteralType, to: &LiteralType) -> Result<List<(Text, Literal)>, ConvertFault>
+fn convert_entries(
+    alloc: Global,
+    entries: Vec<(Text, Literal)>,
+    from: &LiteralType,
+    to: &LiteralType,
+) -> Result<List<(Text, Literal)>, ConvertFault>
     requires { All (λ entry. IsMember from.now entry.1) entries.items }
     ensures { IsAnswer (each_ok (entry_ok (λ value. converted value from.now to.now)) entries.items) result }
 {

@@ -62,7 +62,11 @@ fn fit_union(alloc: Global, literal: Literal, variants: &[LiteralType]) -> Resul
 }
 
 #[cycle(fit)]
-fn fit_into_union(alloc: Global, literal: Literal, variants: &[LiteralType]) -> Result<Literal, FitFault>
+fn fit_into_union(
+    alloc: Global,
+    literal: Literal,
+    variants: &[LiteralType],
+) -> Result<Literal, FitFault>
     ensures { IsFitted (into_only (fits literal) variants.now) result }
 {
     match only_fitting(&literal, variants) {
@@ -77,7 +81,11 @@ fn fit_into_union(alloc: Global, literal: Literal, variants: &[LiteralType]) -> 
 }
 
 #[cycle(fit)]
-fn fit_collection(alloc: Global, literal: Literal, element: &LiteralType) -> Result<Literal, FitFault>
+fn fit_collection(
+    alloc: Global,
+    literal: Literal,
+    element: &LiteralType,
+) -> Result<Literal, FitFault>
     ensures { IsFitted (elements_fit (λ e. fits e element.now) (out-Literal literal)) result }
 {
     match literal {
@@ -90,7 +98,11 @@ fn fit_collection(alloc: Global, literal: Literal, element: &LiteralType) -> Res
 }
 
 #[cycle(fit)]
-fn fit_elements(alloc: Global, elements: Vec<Literal>, kind: &LiteralType) -> Result<List<Literal>, FitFault>
+fn fit_elements(
+    alloc: Global,
+    elements: Vec<Literal>,
+    kind: &LiteralType,
+) -> Result<List<Literal>, FitFault>
     ensures { IsFitted (each_some (λ e. fits e kind.now) elements.items) result }
 {
     let mut fitted = Vec::with_capacity(alloc, elements.len())?;
@@ -114,7 +126,11 @@ fn fit_map(alloc: Global, literal: Literal, value: &LiteralType) -> Result<Liter
 }
 
 #[cycle(fit)]
-fn fit_entries(alloc: Global, entries: Vec<(Text, Literal)>, kind: &LiteralType) -> Result<List<(Text, Literal)>, FitFault>
+fn fit_entries(
+    alloc: Global,
+    entries: Vec<(Text, Literal)>,
+    kind: &LiteralType,
+) -> Result<List<(Text, Literal)>, FitFault>
     ensures { IsFitted (each_some (entry_some (λ e. fits e kind.now)) entries.items) result }
 {
     let mut fitted = Vec::with_capacity(alloc, entries.len())?;

@@ -7,7 +7,9 @@ use fly_types::{BlobType, Boxed, List, Literal, LiteralType, NoMemory, Simple, T
 use std::alloc::Global;
 
 const INTEGER: LiteralType = LiteralType::Simple(Simple::Integer);
+
 const STRING: LiteralType = LiteralType::Simple(Simple::Text);
+
 const NONE: LiteralType = LiteralType::Simple(Simple::None);
 
 fn text(alloc: Global, text: &str) -> Result<Literal, NoMemory> {

@@ -1,7 +1,6 @@
 //! What literals become. Each conversion is one that the types allow.
 use super::{
-    INTEGER, NONE, STRING, collection, collection_of, enum_of, map, map_of, text, union_of,
-    wrapped,
+    INTEGER, NONE, STRING, collection, collection_of, enum_of, map, map_of, text, union_of, wrapped,
 };
 use crate::{ConvertFault, convert, is_castable};
 use fly_types::{Literal, LiteralType, Text, is_member};

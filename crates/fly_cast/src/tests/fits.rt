@@ -1,7 +1,6 @@
 //! What plain values become.
 use super::{
-    INTEGER, NONE, STRING, collection, collection_of, enum_of, map, map_of, text, union_of,
-    wrapped,
+    INTEGER, NONE, STRING, collection, collection_of, enum_of, map, map_of, text, union_of, wrapped,
 };
 use crate::{FitFault, fit};
 use fly_types::{List, Literal};
@@ -11,7 +10,11 @@ use std::test::Fail;
 fn worked_rows(rt: HostRuntime) -> Result<(), Fail> {
     let alloc = rt.alloc();
     let empty = Literal::Collection(List::from_vec(Vec::new(alloc)));
-    let lists = union_of(alloc, collection_of(alloc, INTEGER)?, collection_of(alloc, STRING)?)?;
+    let lists = union_of(
+        alloc,
+        collection_of(alloc, INTEGER)?,
+        collection_of(alloc, STRING)?,
+    )?;
     assert!(rt; fit(alloc, empty, &lists) == Err(FitFault::DoesNotFit));
     let either = union_of(alloc, STRING, enum_of(alloc, &["red"])?)?;
     let blue = wrapped(alloc, text(alloc, "blue")?, STRING)?;
@@ -26,7 +29,11 @@ fn members_stay_and_containers_go_element_by_element(rt: HostRuntime) -> Result<
     let optional = union_of(alloc, INTEGER, NONE)?;
     let one = wrapped(alloc, Literal::Integer(1), INTEGER)?;
     let wanted = collection(alloc, one, wrapped(alloc, Literal::None, NONE)?)?;
-    let mixed = collection(alloc, Literal::Integer(1), wrapped(alloc, Literal::None, NONE)?)?;
+    let mixed = collection(
+        alloc,
+        Literal::Integer(1),
+        wrapped(alloc, Literal::None, NONE)?,
+    )?;
     assert!(rt; fit(alloc, mixed, &collection_of(alloc, optional)?) == Ok(wanted));
     let values = map_of(alloc, union_of(alloc, STRING, INTEGER)?)?;
     let plain = map(alloc, Literal::Integer(1), text(alloc, "t")?)?;

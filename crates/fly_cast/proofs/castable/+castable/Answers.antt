@@ -1,4 +1,4 @@
-use Rattle.std.proofs.Common.{arith, sym, ◌∙◌, ap}
+use Rattle.std.proofs.Common.{arith, sym, ◌∙◌}
 use Rattle.fly_cast.specs.Castable.{castable}
 use Rattle.fly_cast.proofs.Casts.{castable-same, castable-differ}
 use Rattle.fly_cast.proofs.Levels.{variant-levels}
@@ -23,4 +23,4 @@ pub only_taker-returns-then-is_some : goal.only_taker-returns-then-is_some
 only_taker-returns-then-is_some t c =
     let one = some_copied c.loop-variant.taker (sym c.is_some.ensures ∙ c.if-is_some.true) in
     two_pass (castable c.args.a.now) _ c.loop-variant.variant-index c.variant-item.result one.0 c.loop-variant-test.true c.variant-item.is
-        (sym c.is_castable.ensures ∙ c.if-is_castable.true) (c.loop-variant.invariant ∙ one.1)
+    (sym c.is_castable.ensures ∙ c.if-is_castable.true) (c.loop-variant.invariant ∙ one.1)

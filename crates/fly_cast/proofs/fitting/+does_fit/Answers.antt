@@ -19,14 +19,14 @@ pub does_form_fit-returns-in-Collection-literal : goal.does_form_fit-returns-in-
 does_form_fit-returns-in-Collection-literal t c =
     c.do_elements_fit.ensures
     ∙ sym (ap is_some (form-at-collection _ _ _ _ (ap out-LiteralType c.in-Collection.is ∙ type.outs-Collection _) c.get.ensures)
-        ∙ elements-test (λ e. fits e c.get.result.now) _ _ _ (ap out-Literal c.in-Collection-literal.is ∙ literal.outs-Collection _) c.as_slice.ensures)
+    ∙ elements-test (λ e. fits e c.get.result.now) _ _ _ (ap out-Literal c.in-Collection-literal.is ∙ literal.outs-Collection _) c.as_slice.ensures)
 
 pub does_form_fit-returns-in-Map-literal : goal.does_form_fit-returns-in-Map-literal
 does_form_fit-returns-in-Map-literal t c =
     c.do_values_fit.ensures
     ∙ sym (ap is_some (form-at-map _ _ _ _ (ap out-LiteralType c.in-Map.is ∙ type.outs-Map _) c.get-in-Map-literal.ensures)
-        ∙ entries-test (λ e. fits e c.get-in-Map-literal.result.now) _ _ _ (ap out-Literal c.in-Map-literal.is ∙ literal.outs-Map _)
-            c.as_slice-in-Map-literal.ensures)
+    ∙ entries-test (λ e. fits e c.get-in-Map-literal.result.now) _ _ _ (ap out-Literal c.in-Map-literal.is ∙ literal.outs-Map _)
+    c.as_slice-in-Map-literal.ensures)
 
 pub does_fit_union-returns-in_default : goal.does_fit_union-returns-in_default
 does_fit_union-returns-in_default t c =
@@ -41,4 +41,4 @@ pub only_fitting-returns-then-is_some : goal.only_fitting-returns-then-is_some
 only_fitting-returns-then-is_some t c =
     let one = some_copied c.loop-variant.fitting (sym c.is_some.ensures ∙ c.if-is_some.true) in
     two_pass (λ v. is_some (fits c.args.literal.now v)) _ c.loop-variant.variant-index c.variant-item.result one.0 c.loop-variant-test.true c.variant-item.is
-        (sym c.does_fit.ensures ∙ c.if-does_fit.true) (c.loop-variant.invariant ∙ one.1)
+    (sym c.does_fit.ensures ∙ c.if-does_fit.true) (c.loop-variant.invariant ∙ one.1)

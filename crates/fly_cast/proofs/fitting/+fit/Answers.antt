@@ -1,4 +1,4 @@
-use Rattle.std.proofs.Common.{arith, sym, ◌∙◌, ap, ◌∷◌, [], ◌++◌, ◌≡◌, length, append_assoc, Some, Err, is_some}
+use Rattle.std.proofs.Common.{arith, sym, ◌∙◌, ap, ◌∷◌, [], ◌++◌, ◌≡◌, length, append_assoc, Some, is_some}
 use Rattle.std.specs.Option.{option_map}
 use Rattle.std.proofs.lemmas.Result.{err_from_is_err_and}
 use Rattle.std.specs.Vec.Iter.{into_iter_items}
@@ -41,9 +41,9 @@ fit_elements-returns-in_err-fit_by_rule t c =
     let p = err_from_is_err_and c.from_residual-in_err-fit_by_rule.result c.from_residual-in_err-fit_by_rule.ensures.1 in
     let at = c.loop-element in
     let parts : c.args.elements.items ≡ at.yielded ++ (c.in-Some.element ∷ into_iter_items c.next.new.self) =
-        sym c.into_iter-element-iterator.ensures.into_iter_gives.0 ∙ sym at.invariant.all ∙ ap (λ xs. at.yielded ++ xs) c.in-Some.ensures.steps.0 in
+    sym c.into_iter-element-iterator.ensures.into_iter_gives.0 ∙ sym at.invariant.all ∙ ap (λ xs. at.yielded ++ xs) c.in-Some.ensures.steps.0 in
     rw (p.1, p.2) (stops-each (λ e. fits e c.args.kind.now) _ at.yielded _ c.in-Some.element (into_iter_items c.next.new.self)
-        c.in_err-fit_by_rule.field-0.0 parts at.invariant.done c.in_err-fit_by_rule.ensures)
+    c.in_err-fit_by_rule.field-0.0 parts at.invariant.done c.in_err-fit_by_rule.ensures)
 
 pub fit_elements-loop-element-preserved : goal.fit_elements-loop-element-preserved
 fit_elements-loop-element-preserved t c =
@@ -52,7 +52,7 @@ fit_elements-loop-element-preserved t c =
       all = append_assoc at.yielded (c.in-Some.element ∷ []) _ ∙ rw (← steps) at.invariant.all;
       left = let was = at.invariant.left in let gone = c.in-Some.ensures.steps.1 in let short = ap length steps in omega arith;
       done = each_some-push (λ e. fits e c.args.kind.now) at.yielded _ c.in-Some.element _ at.invariant.done c.in_ok-fit_by_rule.ensures
-        ∙ ap Some (sym c.in_ok-push.ensures.items);
+          ∙ ap Some (sym c.in_ok-push.ensures.items);
     }
 
 pub fit_map-returns-in-Map : goal.fit_map-returns-in-Map
@@ -65,10 +65,10 @@ fit_entries-returns-in_err-value t c =
     let p = err_from_is_err_and c.from_residual-in_err-value.result c.from_residual-in_err-value.ensures.1 in
     let at = c.loop-name in
     let parts : c.args.entries.items ≡ at.yielded ++ ((c.in-Some.name, c.in-Some.value) ∷ into_iter_items c.next.new.self) =
-        sym c.into_iter-name-iterator.ensures.into_iter_gives.0 ∙ sym at.invariant.all ∙ ap (λ xs. at.yielded ++ xs) c.in-Some.ensures.steps.0 in
+    sym c.into_iter-name-iterator.ensures.into_iter_gives.0 ∙ sym at.invariant.all ∙ ap (λ xs. at.yielded ++ xs) c.in-Some.ensures.steps.0 in
     rw (p.1, p.2) (stops-each (entry_some (λ e. fits e c.args.kind.now)) _ at.yielded _ (c.in-Some.name, c.in-Some.value)
-        (into_iter_items c.next.new.self) c.in_err-value.field-0.0 parts at.invariant.done
-        (fitted-map (λ value. (c.in-Some.name, value)) _ _ c.in_err-value.ensures))
+    (into_iter_items c.next.new.self) c.in_err-value.field-0.0 parts at.invariant.done
+    (fitted-map (λ value. (c.in-Some.name, value)) _ _ c.in_err-value.ensures))
 
 pub fit_entries-loop-name-preserved : goal.fit_entries-loop-name-preserved
 fit_entries-loop-name-preserved t c =
@@ -77,6 +77,6 @@ fit_entries-loop-name-preserved t c =
       all = append_assoc at.yielded ((c.in-Some.name, c.in-Some.value) ∷ []) _ ∙ rw (← steps) at.invariant.all;
       left = let was = at.invariant.left in let gone = c.in-Some.ensures.steps.1 in let short = ap length steps in omega arith;
       done = each_some-push (entry_some (λ e. fits e c.args.kind.now)) at.yielded _ (c.in-Some.name, c.in-Some.value) _ at.invariant.done
-            (ap (option_map (λ value. (c.in-Some.name, value))) c.in_ok-value.ensures)
-        ∙ ap Some (sym c.in_ok-push.ensures.items);
+          (ap (option_map (λ value. (c.in-Some.name, value))) c.in_ok-value.ensures)
+          ∙ ap Some (sym c.in_ok-push.ensures.items);
     }
