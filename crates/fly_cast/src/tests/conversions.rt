@@ -3,7 +3,7 @@ use super::{
     INTEGER, NONE, STRING, collection, collection_of, enum_of, map, map_of, text, union_of, wrapped,
 };
 use crate::{ConvertFault, convert, is_castable};
-use fly_types::{Literal, LiteralType, Text, is_member};
+use fly_types::{Literal, LiteralType, NoMemory, Text, is_member};
 use std::alloc::Global;
 use std::test::Fail;
 
@@ -64,14 +64,23 @@ fn a_union_scalar_goes_from_its_own_variant(rt: HostRuntime) -> Result<(), Fail>
 #[test]
 fn elements_are_wrapped_one_by_one(rt: HostRuntime) -> Result<(), Fail> {
     let alloc = rt.alloc();
-    let from = collection_of(alloc, INTEGER)?;
-    let into = collection_of(alloc, union_of(alloc, INTEGER, NONE)?)?;
+    let into = optional_integers(alloc)?;
+    let wanted = wrapped_pair(alloc)?;
     let numbers = collection(alloc, Literal::Integer(1), Literal::Integer(2))?;
+    let pair = tested(alloc, numbers, &collection_of(alloc, INTEGER)?, &into);
+    assert!(rt; pair == Some(Ok(wanted)));
+    Ok(())
+}
+
+fn optional_integers(alloc: Global) -> Result<LiteralType, NoMemory> {
+    let optional = union_of(alloc, INTEGER, NONE)?;
+    collection_of(alloc, optional)
+}
+
+fn wrapped_pair(alloc: Global) -> Result<Literal, NoMemory> {
     let one = wrapped(alloc, Literal::Integer(1), INTEGER)?;
     let two = wrapped(alloc, Literal::Integer(2), INTEGER)?;
-    let wanted = collection(alloc, one, two)?;
-    assert!(rt; tested(alloc, numbers, &from, &into) == Some(Ok(wanted)));
-    Ok(())
+    collection(alloc, one, two)
 }
 
 #[test]
