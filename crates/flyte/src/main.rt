@@ -30,6 +30,8 @@ fn main(rt: HostRuntime) -> ExitCode {
         let _ = err.put(b"out of memory\n");
         return ExitCode::from(Status::NoMemory as u8);
     };
-    let status = flyte(&rt, alloc, &words, &mut files, &mut out, &mut err, &mut crew);
+    let status = flyte(
+        &rt, alloc, &words, &mut files, &mut out, &mut err, &mut crew,
+    );
     ExitCode::from(status as u8)
 }
