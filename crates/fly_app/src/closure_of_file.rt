@@ -1,6 +1,4 @@
 ghost use Rattle.std.specs.Prelude.{◌≡◌, ◌≢◌, ◌≤◌, IfOk, IfErr};
-ghost use Rattle.fly_docs.specs.declared.workflow.Bundle.{Bundle};
-ghost use Rattle.fly_docs.specs.declared.closure.Closure.{Closure};
 ghost use Rattle.fly_app.specs.Answers.{HasClosure};
 ghost use Rattle.fly_app.specs.Stops.{HasText, stop_for, StopsReading, StopsAt};
 
@@ -9,8 +7,7 @@ use crate::faults::{DOCUMENT_LIMIT, DocKind};
 use crate::read_bundle::read_bundle;
 use crate::write_closure::write_closure;
 use fly_ports::{Files, ReadFault};
-use fly_types::NoMemory;
-use std::alloc::{AllocFailed, Global};
+use std::alloc::Global;
 
 /// Why there is no closure to print.
 #[derive(Clone, Copy, Debug, PartialEq, Eq)]
@@ -20,12 +17,6 @@ pub enum Stop {
     /// The file could not be read.
     Unread,
     NoMemory,
-}
-
-impl From<NoMemory> for Stop {
-    fn from(_: NoMemory) -> Stop {
-        Stop::NoMemory
-    }
 }
 
 /// The text of the closure of the bundle that the bytes are, with a newline.
