@@ -33,6 +33,12 @@ fn union_of(
     Ok(LiteralType::Union(List::from_vec(variants)))
 }
 
+/// `union(STRING, enum("red"))`
+fn text_or_enum(alloc: Global) -> Result<LiteralType, NoMemory> {
+    let red = enum_of(alloc, &["red"])?;
+    union_of(alloc, STRING, red)
+}
+
 fn collection_of(alloc: Global, element: LiteralType) -> Result<LiteralType, NoMemory> {
     Ok(LiteralType::Collection(Boxed::new(alloc, element)?))
 }
