@@ -1,4 +1,7 @@
-use crate::{Binding, Bound, Bundle, Identifier, Interface, Node, Target, Task, Workflow};
+use crate::{
+    Binding, Bound, Bundle, Closure, Connections, Identifier, Interface, Node, Target, Task,
+    Workflow,
+};
 use fly_types::{List, LiteralType, NoMemory, Simple, Text, Variable};
 use std::alloc::Global;
 use std::test::Fail;
@@ -85,5 +88,29 @@ fn a_copy_is_the_same_bundle(rt: HostRuntime) -> Result<(), Fail> {
         primary: identifier(alloc, "w")?,
     };
     assert!(rt; bundle.copy(alloc)? == bundle);
+    Ok(())
+}
+
+#[test]
+fn a_copy_is_the_same_closure(rt: HostRuntime) -> Result<(), Fail> {
+    let alloc = rt.alloc();
+    let beside = (text(alloc, "n0")?, one(alloc, text(alloc, "end-node")?)?);
+    let connections = Connections {
+        upstream: none(alloc),
+        downstream: one(alloc, beside)?,
+    };
+    let closure = Closure {
+        primary: Workflow {
+            id: identifier(alloc, "w")?,
+            fail_late: false,
+            interface: interface(alloc, "a")?,
+            nodes: one(alloc, node(alloc)?)?,
+            outputs: none(alloc),
+        },
+        subs: none(alloc),
+        tasks: one(alloc, task(alloc)?)?,
+        connections: one(alloc, connections)?,
+    };
+    assert!(rt; closure.copy(alloc)? == closure);
     Ok(())
 }
