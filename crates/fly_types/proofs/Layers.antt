@@ -23,29 +23,29 @@ use Rattle.fly_types.specs.declared.literals.Literal.TheViews as lv
 use Rattle.fly_types.specs.declared.literals.Literal.TheVariants as l
 use Rattle.fly_types.specs.declared.literals.Literal.TheFolds.{fold-roll-Literal}
 use Rattle.fly_types.specs.Layer.{TypeLayer, LiteralLayer, TreeLayer}
-use Rattle.fly_types.specs.Canonical.{big_endian, count, signed, flag, counted, listed, named, blob_form, simple_number, type_bytes_by, type_bytes, tree_bytes_by, tree_bytes, literal_bytes_by, literal_bytes, member_bytes, entry_bytes}
+use Rattle.fly_types.specs.Canonical.{number_bytes, count_bytes, signed_bytes, flag_bytes, text_bytes, list_bytes, pair_bytes, form_bytes, simple_number, type_bytes_by, type_bytes, tree_bytes_by, tree_bytes, literal_bytes_by, literal_bytes, member_bytes, entry_bytes}
 
 -- many values: their count, and the bytes of each
 abbrev pub all_bytes : {X : Type 0} → (X → List ℕ) → List X → List ℕ
-all_bytes f xs = count (length xs) ++ concat (map f xs)
+all_bytes f xs = count_bytes (length xs) ++ concat (map f xs)
 
-pub listed-map : {X : Type 0} (f : X → List ℕ) (xs : List X) → listed (map f xs) ≡ all_bytes f xs
-listed-map f xs = ap (λ n. count n ++ concat (map f xs)) (length-map xs f)
+pub list_bytes-map : {X : Type 0} (f : X → List ℕ) (xs : List X) → list_bytes (map f xs) ≡ all_bytes f xs
+list_bytes-map f xs = ap (λ n. count_bytes n ++ concat (map f xs)) (length-map xs f)
 
 map-map : {X Y : Type 0} (f : X → Y) (g : Y → List ℕ) (xs : List X) → map g (map f xs) ≡ map (λ x. g (f x)) xs
 map-map f g [] = refl
 map-map f g (x ∷ xs) = ap (λ ys. g (f x) ∷ ys) (map-map f g xs)
 
-listed-map-map : {X Y : Type 0} (f : X → Y) (g : Y → List ℕ) (xs : List X) → listed (map g (map f xs)) ≡ all_bytes (λ x. g (f x)) xs
-listed-map-map f g xs = ap listed (map-map f g xs) ∙ listed-map (λ x. g (f x)) xs
+list_bytes-map-map : {X Y : Type 0} (f : X → Y) (g : Y → List ℕ) (xs : List X) → list_bytes (map g (map f xs)) ≡ all_bytes (λ x. g (f x)) xs
+list_bytes-map-map f g xs = ap list_bytes (map-map f g xs) ∙ list_bytes-map (λ x. g (f x)) xs
 
 -- one layer of a value, with the bytes of what it holds
 abbrev pub type_layer_bytes : TypeLayer → List ℕ
 type_layer_bytes (LiteralType-F.Simple s) = 0x10 ∷ simple_number s ∷ []
 type_layer_bytes (LiteralType-F.Collection element) = 0x11 ∷ type_bytes element
 type_layer_bytes (LiteralType-F.Map value) = 0x12 ∷ type_bytes value
-type_layer_bytes (LiteralType-F.Blob form) = 0x13 ∷ blob_form form
-type_layer_bytes (LiteralType-F.Enum values) = 0x14 ∷ all_bytes counted values
+type_layer_bytes (LiteralType-F.Blob form) = 0x13 ∷ form_bytes form
+type_layer_bytes (LiteralType-F.Enum values) = 0x14 ∷ all_bytes text_bytes values
 type_layer_bytes (LiteralType-F.Union variants) = 0x15 ∷ all_bytes type_bytes variants
 
 pub type_bytes-roll : (d : TypeLayer) → type_bytes (roll-LiteralType d) ≡ type_layer_bytes d
@@ -55,15 +55,15 @@ type_bytes-roll (LiteralType-F.Collection element) = fold-roll-LiteralType (List
 type_bytes-roll (LiteralType-F.Map value) = fold-roll-LiteralType (List ℕ) type_bytes_by (LiteralType-F.Map value)
 type_bytes-roll (LiteralType-F.Blob form) = fold-roll-LiteralType (List ℕ) type_bytes_by (LiteralType-F.Blob form)
 type_bytes-roll (LiteralType-F.Enum values) =
-    fold-roll-LiteralType (List ℕ) type_bytes_by (LiteralType-F.Enum values) ∙ ap (λ b. 0x14 ∷ b) (listed-map counted values)
+    fold-roll-LiteralType (List ℕ) type_bytes_by (LiteralType-F.Enum values) ∙ ap (λ b. 0x14 ∷ b) (list_bytes-map text_bytes values)
 type_bytes-roll (LiteralType-F.Union variants) =
-    fold-roll-LiteralType (List ℕ) type_bytes_by (LiteralType-F.Union variants) ∙ ap (λ b. 0x15 ∷ b) (listed-map type_bytes variants)
+    fold-roll-LiteralType (List ℕ) type_bytes_by (LiteralType-F.Union variants) ∙ ap (λ b. 0x15 ∷ b) (list_bytes-map type_bytes variants)
 
 abbrev pub tree_layer_bytes : TreeLayer → List ℕ
 tree_layer_bytes Tree-F.Null = 0x00 ∷ []
-tree_layer_bytes (Tree-F.Bool value) = 0x01 ∷ flag value
-tree_layer_bytes (Tree-F.Whole value) = 0x02 ∷ signed w64 value
-tree_layer_bytes (Tree-F.Text text) = 0x03 ∷ counted text
+tree_layer_bytes (Tree-F.Bool value) = 0x01 ∷ flag_bytes value
+tree_layer_bytes (Tree-F.Whole value) = 0x02 ∷ signed_bytes w64 value
+tree_layer_bytes (Tree-F.Text text) = 0x03 ∷ text_bytes text
 tree_layer_bytes (Tree-F.List trees) = 0x04 ∷ all_bytes tree_bytes trees
 tree_layer_bytes (Tree-F.Object members) = 0x05 ∷ all_bytes member_bytes members
 
@@ -74,20 +74,20 @@ tree_bytes-roll (Tree-F.Bool value) = fold-roll-Tree (List ℕ) tree_bytes_by (T
 tree_bytes-roll (Tree-F.Whole value) = fold-roll-Tree (List ℕ) tree_bytes_by (Tree-F.Whole value)
 tree_bytes-roll (Tree-F.Text text) = fold-roll-Tree (List ℕ) tree_bytes_by (Tree-F.Text text)
 tree_bytes-roll (Tree-F.List trees) =
-    fold-roll-Tree (List ℕ) tree_bytes_by (Tree-F.List trees) ∙ ap (λ b. 0x04 ∷ b) (listed-map tree_bytes trees)
+    fold-roll-Tree (List ℕ) tree_bytes_by (Tree-F.List trees) ∙ ap (λ b. 0x04 ∷ b) (list_bytes-map tree_bytes trees)
 tree_bytes-roll (Tree-F.Object members) =
-    fold-roll-Tree (List ℕ) tree_bytes_by (Tree-F.Object members) ∙ ap (λ b. 0x05 ∷ b) (listed-map-map (λ m. (m.0, tree_bytes m.1)) named members)
+    fold-roll-Tree (List ℕ) tree_bytes_by (Tree-F.Object members) ∙ ap (λ b. 0x05 ∷ b) (list_bytes-map-map (λ m. (m.0, tree_bytes m.1)) pair_bytes members)
 
 abbrev pub literal_layer_bytes : LiteralLayer → List ℕ
 literal_layer_bytes Literal-F.None = 0x01 ∷ []
-literal_layer_bytes (Literal-F.Integer value) = 0x02 ∷ signed w64 value
-literal_layer_bytes (Literal-F.Text text) = 0x03 ∷ counted text
-literal_layer_bytes (Literal-F.Boolean value) = 0x04 ∷ flag value
-literal_layer_bytes (Literal-F.Datetime seconds nanos) = 0x05 ∷ (signed w64 seconds ++ big_endian w32 nanos)
-literal_layer_bytes (Literal-F.Duration seconds nanos) = 0x06 ∷ (signed w64 seconds ++ signed w32 nanos)
-literal_layer_bytes (Literal-F.Blob uri form) = 0x07 ∷ (counted uri ++ blob_form form)
-literal_layer_bytes (Literal-F.Binary value tag) = 0x08 ∷ (counted value ++ counted tag)
-literal_layer_bytes (Literal-F.Error node message) = 0x09 ∷ (counted node ++ counted message)
+literal_layer_bytes (Literal-F.Integer value) = 0x02 ∷ signed_bytes w64 value
+literal_layer_bytes (Literal-F.Text text) = 0x03 ∷ text_bytes text
+literal_layer_bytes (Literal-F.Boolean value) = 0x04 ∷ flag_bytes value
+literal_layer_bytes (Literal-F.Datetime seconds nanos) = 0x05 ∷ (signed_bytes w64 seconds ++ number_bytes w32 nanos)
+literal_layer_bytes (Literal-F.Duration seconds nanos) = 0x06 ∷ (signed_bytes w64 seconds ++ signed_bytes w32 nanos)
+literal_layer_bytes (Literal-F.Blob uri form) = 0x07 ∷ (text_bytes uri ++ form_bytes form)
+literal_layer_bytes (Literal-F.Binary value tag) = 0x08 ∷ (text_bytes value ++ text_bytes tag)
+literal_layer_bytes (Literal-F.Error node message) = 0x09 ∷ (text_bytes node ++ text_bytes message)
 literal_layer_bytes (Literal-F.Generic tree) = 0x0a ∷ tree_bytes tree
 literal_layer_bytes (Literal-F.Union value variant) = 0x0b ∷ (type_bytes variant ++ literal_bytes value)
 literal_layer_bytes (Literal-F.Map entries) = 0x0c ∷ all_bytes entry_bytes entries
@@ -96,9 +96,9 @@ literal_layer_bytes (Literal-F.Collection elements) = 0x0d ∷ all_bytes literal
 pub literal_bytes-roll : (d : LiteralLayer) → literal_bytes (roll-Literal d) ≡ literal_layer_bytes d
 unfolding literal_bytes
 literal_bytes-roll (Literal-F.Map entries) =
-    fold-roll-Literal (List ℕ) literal_bytes_by (Literal-F.Map entries) ∙ ap (λ b. 0x0c ∷ b) (listed-map-map (λ e. (e.0, literal_bytes e.1)) named entries)
+    fold-roll-Literal (List ℕ) literal_bytes_by (Literal-F.Map entries) ∙ ap (λ b. 0x0c ∷ b) (list_bytes-map-map (λ e. (e.0, literal_bytes e.1)) pair_bytes entries)
 literal_bytes-roll (Literal-F.Collection elements) =
-    fold-roll-Literal (List ℕ) literal_bytes_by (Literal-F.Collection elements) ∙ ap (λ b. 0x0d ∷ b) (listed-map literal_bytes elements)
+    fold-roll-Literal (List ℕ) literal_bytes_by (Literal-F.Collection elements) ∙ ap (λ b. 0x0d ∷ b) (list_bytes-map literal_bytes elements)
 literal_bytes-roll Literal-F.None = fold-roll-Literal (List ℕ) literal_bytes_by Literal-F.None
 literal_bytes-roll (Literal-F.Integer value) = fold-roll-Literal (List ℕ) literal_bytes_by (Literal-F.Integer value)
 literal_bytes-roll (Literal-F.Text text) = fold-roll-Literal (List ℕ) literal_bytes_by (Literal-F.Text text)

@@ -1,8 +1,10 @@
 pub mod Layers
 pub mod Lists
 pub mod LiteralTells
+pub mod LookupLemmas
 pub mod Member
 pub mod Readings
+pub mod SameLemmas
 pub mod SoundLemmas
 pub mod Tells
 pub mod TreeTells

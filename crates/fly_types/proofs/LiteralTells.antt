@@ -11,10 +11,10 @@ use Rattle.fly_types.specs.declared.literals.Literal.TheViews.{roll-out-Literal,
 use Rattle.fly_types.specs.declared.literals.Literal.TheFolds.{ind-Literal, map-Literal, every_here-Literal, every_held-Literal}
 use Rattle.fly_types.specs.Layer.{LiteralLayer}
 use Rattle.fly_types.specs.Sound.{IsShort, IsInstant, IsSpan, IsLiteralLayerSound, HasSoundParts, HasSoundTypeParts}
-use Rattle.fly_types.specs.Canonical.{big_endian, signed, counted, blob_form, type_bytes, literal_bytes}
+use Rattle.fly_types.specs.Canonical.{number_bytes, signed_bytes, text_bytes, form_bytes, type_bytes, literal_bytes}
 use Rattle.fly_types.proofs.Layers.{literal_layer_bytes, literal_bytes-roll}
-use Rattle.fly_types.proofs.Tells.{Tells, heads, tails, flag-tells, signed-tells_8, signed-tells_4, big_endian-tells_4, both-tell, counted-tells, all-tell, IsEntry, entry_of, entries-tell, are_entries}
-use Rattle.fly_types.proofs.TypeTells.{blob_form-tells, type_bytes-tells}
+use Rattle.fly_types.proofs.Tells.{Tells, heads, tails, flag_bytes-tells, signed_bytes-tells_8, signed_bytes-tells_4, number_bytes-tells_4, both-tell, text_bytes-tells, all-tell, IsEntry, entry_of, entries-tell, are_entries}
+use Rattle.fly_types.proofs.TypeTells.{form_bytes-tells, type_bytes-tells}
 use Rattle.fly_types.proofs.TreeTells.{tree_bytes-tells}
 
 instant_fits : (seconds : ℤ) (nanos : ℕ) → IsInstant seconds nanos → FitsSigned w64 seconds
@@ -77,34 +77,34 @@ layer_tells : (z : LiteralLayer) → LiteralsHeld LiteralTells z → (w : Litera
 layer_tells Literal-F.None t Literal-F.None r s p q e = (refl, tails _ _ _ _ e)
 layer_tells Literal-F.None t w r s p q e = let h = heads _ _ _ _ e in absurd (omega (arith, h))
 layer_tells (Literal-F.Integer a) t (Literal-F.Integer b) r s p q e =
-    let h = signed-tells_8 a b r s p.0 q.0 (tails _ _ _ _ e) in (ap Literal-F.Integer h.0, h.1)
+    let h = signed_bytes-tells_8 a b r s p.0 q.0 (tails _ _ _ _ e) in (ap Literal-F.Integer h.0, h.1)
 layer_tells (Literal-F.Integer a) t w r s p q e = let h = heads _ _ _ _ e in absurd (omega (arith, h))
 layer_tells (Literal-F.Text a) t (Literal-F.Text b) r s p q e =
-    let h = counted-tells a b r s p.0 q.0 (tails _ _ _ _ e) in (ap Literal-F.Text h.0, h.1)
+    let h = text_bytes-tells a b r s p.0 q.0 (tails _ _ _ _ e) in (ap Literal-F.Text h.0, h.1)
 layer_tells (Literal-F.Text a) t w r s p q e = let h = heads _ _ _ _ e in absurd (omega (arith, h))
 layer_tells (Literal-F.Boolean a) t (Literal-F.Boolean b) r s p q e =
-    let h = flag-tells a b r s tt tt (tails _ _ _ _ e) in (ap Literal-F.Boolean h.0, h.1)
+    let h = flag_bytes-tells a b r s tt tt (tails _ _ _ _ e) in (ap Literal-F.Boolean h.0, h.1)
 layer_tells (Literal-F.Boolean a) t w r s p q e = let h = heads _ _ _ _ e in absurd (omega (arith, h))
 layer_tells (Literal-F.Datetime a m) t (Literal-F.Datetime b n) r s p q e =
-    let h = both-tell (FitsSigned w64) (λ k. k < 2 ^ 32) (signed w64) (big_endian w32) a m (signed-tells_8 a) (big_endian-tells_4 m) b n r s
+    let h = both-tell (FitsSigned w64) (λ k. k < 2 ^ 32) (signed_bytes w64) (number_bytes w32) a m (signed_bytes-tells_8 a) (number_bytes-tells_4 m) b n r s
     (instant_fits a m p.0) (nanos_fit m p.0.nanos_below) (instant_fits b n q.0) (nanos_fit n q.0.nanos_below) (tails _ _ _ _ e) in
     (λ i. Literal-F.Datetime (h.0 i) (h.1 i), h.2)
 layer_tells (Literal-F.Datetime a m) t w r s p q e = let h = heads _ _ _ _ e in absurd (omega (arith, h))
 layer_tells (Literal-F.Duration a m) t (Literal-F.Duration b n) r s p q e =
-    let h = both-tell (FitsSigned w64) (FitsSigned w32) (signed w64) (signed w32) a m (signed-tells_8 a) (signed-tells_4 m) b n r s
+    let h = both-tell (FitsSigned w64) (FitsSigned w32) (signed_bytes w64) (signed_bytes w32) a m (signed_bytes-tells_8 a) (signed_bytes-tells_4 m) b n r s
     (span_fits a m p.0) (span_nanos_fit a m p.0) (span_fits b n q.0) (span_nanos_fit b n q.0) (tails _ _ _ _ e) in
     (λ i. Literal-F.Duration (h.0 i) (h.1 i), h.2)
 layer_tells (Literal-F.Duration a m) t w r s p q e = let h = heads _ _ _ _ e in absurd (omega (arith, h))
 layer_tells (Literal-F.Blob a f) t (Literal-F.Blob b g) r s p q e =
-    let h = both-tell IsShort (λ k. IsShort k.format) counted blob_form a f (counted-tells a) (blob_form-tells f) b g r s p.0.0 p.0.1 q.0.0 q.0.1 (tails _ _ _ _ e) in
+    let h = both-tell IsShort (λ k. IsShort k.format) text_bytes form_bytes a f (text_bytes-tells a) (form_bytes-tells f) b g r s p.0.0 p.0.1 q.0.0 q.0.1 (tails _ _ _ _ e) in
     (λ i. Literal-F.Blob (h.0 i) (h.1 i), h.2)
 layer_tells (Literal-F.Blob a f) t w r s p q e = let h = heads _ _ _ _ e in absurd (omega (arith, h))
 layer_tells (Literal-F.Binary a f) t (Literal-F.Binary b g) r s p q e =
-    let h = both-tell IsShort IsShort counted counted a f (counted-tells a) (counted-tells f) b g r s p.0.0 p.0.1 q.0.0 q.0.1 (tails _ _ _ _ e) in
+    let h = both-tell IsShort IsShort text_bytes text_bytes a f (text_bytes-tells a) (text_bytes-tells f) b g r s p.0.0 p.0.1 q.0.0 q.0.1 (tails _ _ _ _ e) in
     (λ i. Literal-F.Binary (h.0 i) (h.1 i), h.2)
 layer_tells (Literal-F.Binary a f) t w r s p q e = let h = heads _ _ _ _ e in absurd (omega (arith, h))
 layer_tells (Literal-F.Error a f) t (Literal-F.Error b g) r s p q e =
-    let h = both-tell IsShort IsShort counted counted a f (counted-tells a) (counted-tells f) b g r s p.0.0 p.0.1 q.0.0 q.0.1 (tails _ _ _ _ e) in
+    let h = both-tell IsShort IsShort text_bytes text_bytes a f (text_bytes-tells a) (text_bytes-tells f) b g r s p.0.0 p.0.1 q.0.0 q.0.1 (tails _ _ _ _ e) in
     (λ i. Literal-F.Error (h.0 i) (h.1 i), h.2)
 layer_tells (Literal-F.Error a f) t w r s p q e = let h = heads _ _ _ _ e in absurd (omega (arith, h))
 layer_tells (Literal-F.Generic a) t (Literal-F.Generic b) r s p q e =

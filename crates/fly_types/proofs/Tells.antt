@@ -8,7 +8,7 @@ use Rattle.std.proofs.lemmas.Nat.{from_be_bytes-to_be_bytes_4, from_be_bytes-to_
 use Rattle.std.proofs.lemmas.Int.{to_z-of_z}
 use Rattle.std.proofs.Math.Facts.{Fits-of_z}
 use Rattle.fly_types.specs.Sound.{IsShort}
-use Rattle.fly_types.specs.Canonical.{big_endian, count, signed, flag, counted, named}
+use Rattle.fly_types.specs.Canonical.{number_bytes, count_bytes, signed_bytes, flag_bytes, text_bytes, pair_bytes}
 use Rattle.fly_types.proofs.Layers.{all_bytes}
 
 abbrev pub Tells : {X : Type 0} → (X → Type 0) → (X → List ℕ) → X → Type 0
@@ -40,36 +40,36 @@ fronts (x ∷ xs) (y ∷ ys) r s n e =
     let first : x ≡ y = heads x y (xs ++ r) (ys ++ s) e in
     (cc (first, rest.0), rest.1)
 
-pub big_endian-tells_8 : (n : ℕ) → Tells (λ m. m < 2 ^ 64) (big_endian w64) n
-unfolding big_endian
-big_endian-tells_8 n m r s p q e =
+pub number_bytes-tells_8 : (n : ℕ) → Tells (λ m. m < 2 ^ 64) (number_bytes w64) n
+unfolding number_bytes
+number_bytes-tells_8 n m r s p q e =
     let same : (to_be_bytes w64 n ≡ to_be_bytes w64 m) × (r ≡ s) = fronts (to_be_bytes w64 n) (to_be_bytes w64 m) r s refl e in
     (sym (from_be_bytes-to_be_bytes_8 n p) ∙ ap (from_be_bytes w64) same.0 ∙ from_be_bytes-to_be_bytes_8 m q, same.1)
 
-pub big_endian-tells_4 : (n : ℕ) → Tells (λ m. m < 2 ^ 32) (big_endian w32) n
-unfolding big_endian
-big_endian-tells_4 n m r s p q e =
+pub number_bytes-tells_4 : (n : ℕ) → Tells (λ m. m < 2 ^ 32) (number_bytes w32) n
+unfolding number_bytes
+number_bytes-tells_4 n m r s p q e =
     let same : (to_be_bytes w32 n ≡ to_be_bytes w32 m) × (r ≡ s) = fronts (to_be_bytes w32 n) (to_be_bytes w32 m) r s refl e in
     (sym (from_be_bytes-to_be_bytes_4 n p) ∙ ap (from_be_bytes w32) same.0 ∙ from_be_bytes-to_be_bytes_4 m q, same.1)
 
 one_signed : (w : Width) (y z : ℤ) → FitsSigned w y → FitsSigned w z → cast_unsigned w y ≡ cast_unsigned w z → y ≡ z
 one_signed w y z p q e = sym (to_z-of_z w y p) ∙ ap (cast_signed w) e ∙ to_z-of_z w z q
 
-pub signed-tells_8 : (z : ℤ) → Tells (FitsSigned w64) (signed w64) z
-signed-tells_8 z y r s p q e =
-    let h = big_endian-tells_8 (cast_unsigned w64 z) (cast_unsigned w64 y) r s (Fits-of_z p).fits (Fits-of_z q).fits e in
+pub signed_bytes-tells_8 : (z : ℤ) → Tells (FitsSigned w64) (signed_bytes w64) z
+signed_bytes-tells_8 z y r s p q e =
+    let h = number_bytes-tells_8 (cast_unsigned w64 z) (cast_unsigned w64 y) r s (Fits-of_z p).fits (Fits-of_z q).fits e in
     (one_signed w64 z y p q h.0, h.1)
 
-pub signed-tells_4 : (z : ℤ) → Tells (FitsSigned w32) (signed w32) z
-signed-tells_4 z y r s p q e =
-    let h = big_endian-tells_4 (cast_unsigned w32 z) (cast_unsigned w32 y) r s (Fits-of_z p).fits (Fits-of_z q).fits e in
+pub signed_bytes-tells_4 : (z : ℤ) → Tells (FitsSigned w32) (signed_bytes w32) z
+signed_bytes-tells_4 z y r s p q e =
+    let h = number_bytes-tells_4 (cast_unsigned w32 z) (cast_unsigned w32 y) r s (Fits-of_z p).fits (Fits-of_z q).fits e in
     (one_signed w32 z y p q h.0, h.1)
 
-pub flag-tells : (b : Bool) → Tells (λ _. ⊤) flag b
-flag-tells true true r s p q e = (refl, tails _ _ r s e)
-flag-tells true false r s p q e = let h = heads _ _ r s e in absurd (omega (arith, h))
-flag-tells false true r s p q e = let h = heads _ _ r s e in absurd (omega (arith, h))
-flag-tells false false r s p q e = (refl, tails _ _ r s e)
+pub flag_bytes-tells : (b : Bool) → Tells (λ _. ⊤) flag_bytes b
+flag_bytes-tells true true r s p q e = (refl, tails _ _ r s e)
+flag_bytes-tells true false r s p q e = let h = heads _ _ r s e in absurd (omega (arith, h))
+flag_bytes-tells false true r s p q e = let h = heads _ _ r s e in absurd (omega (arith, h))
+flag_bytes-tells false false r s p q e = (refl, tails _ _ r s e)
 
 -- one after another
 pub both-tell : {X Y : Type 0} (P : X → Type 0) (Q : Y → Type 0) (f : X → List ℕ) (g : Y → List ℕ) (x : X) (y : Y) → Tells P f x → Tells Q g y
@@ -79,11 +79,11 @@ both-tell P Q f g x y h k x' y' r s p q p' q' e =
     let second : (y ≡ y') × (r ≡ s) = k y' r s q q' first.1 in
     (first.0, second.0, second.1)
 
-pub counted-tells : (text : List ℕ) → Tells IsShort counted text
-counted-tells xs ys r s p q e =
+pub text_bytes-tells : (text : List ℕ) → Tells IsShort text_bytes text
+text_bytes-tells xs ys r s p q e =
     let n : (length xs ≡ length ys) × (xs ++ r ≡ ys ++ s) =
-    big_endian-tells_8 (length xs) (length ys) (xs ++ r) (ys ++ s) p q
-    (sym (append_assoc (count (length xs)) xs r) ∙ e ∙ append_assoc (count (length ys)) ys s) in
+    number_bytes-tells_8 (length xs) (length ys) (xs ++ r) (ys ++ s) p q
+    (sym (append_assoc (count_bytes (length xs)) xs r) ∙ e ∙ append_assoc (count_bytes (length ys)) ys s) in
     fronts xs ys r s n.0 n.1
 
 -- as many values on both sides, one after another
@@ -105,20 +105,20 @@ AreAll P xs = IsShort xs × AllByRecursion P xs
 pub all-tell : {X : Type 0} (P : X → Type 0) (f : X → List ℕ) (xs : List X) → AllByRecursion (Tells P f) xs → Tells (AreAll P) (all_bytes f) xs
 all-tell P f xs t ys r s p q e =
     let n : (length xs ≡ length ys) × (concat (map f xs) ++ r ≡ concat (map f ys) ++ s) =
-    big_endian-tells_8 (length xs) (length ys) (concat (map f xs) ++ r) (concat (map f ys) ++ s) p.0 q.0
-    (sym (append_assoc (count (length xs)) (concat (map f xs)) r) ∙ e ∙ append_assoc (count (length ys)) (concat (map f ys)) s) in
+    number_bytes-tells_8 (length xs) (length ys) (concat (map f xs) ++ r) (concat (map f ys) ++ s) p.0 q.0
+    (sym (append_assoc (count_bytes (length xs)) (concat (map f xs)) r) ∙ e ∙ append_assoc (count_bytes (length ys)) (concat (map f ys)) s) in
     parts-tell P f xs ys r s t p.1 q.1 n.0 n.1
 
 -- entries: a name, and the bytes of what has it
 abbrev pub entry_of : {X : Type 0} → (X → List ℕ) → List ℕ × X → List ℕ
-entry_of f entry = named (entry.0, f entry.1)
+entry_of f entry = pair_bytes (entry.0, f entry.1)
 
 abbrev pub IsEntry : {X : Type 0} → (X → Type 0) → List ℕ × X → Type 0
 IsEntry P entry = IsShort entry.0 × P entry.1
 
 pub entry-tells : {X : Type 0} (P : X → Type 0) (f : X → List ℕ) (entry : List ℕ × X) → Tells P f entry.1 → Tells (IsEntry P) (entry_of f) entry
 entry-tells P f entry t other r s p q e =
-    let h = both-tell IsShort P counted f entry.0 entry.1 (counted-tells entry.0) t other.0 other.1 r s p.0 p.1 q.0 q.1 e in
+    let h = both-tell IsShort P text_bytes f entry.0 entry.1 (text_bytes-tells entry.0) t other.0 other.1 r s p.0 p.1 q.0 q.1 e in
     (λ i. (h.0 i, h.1 i), h.2)
 
 pub entries-tell : {X : Type 0} (P : X → Type 0) (f : X → List ℕ) (entries : List (List ℕ × X)) → AllByRecursion (λ e. Tells P f e.1) entries

@@ -12,7 +12,7 @@ use Rattle.fly_types.specs.Layer.{TreeLayer}
 use Rattle.fly_types.specs.Sound.{IsTreeLayerSound, HasSoundTreeParts, IsExactWhole}
 use Rattle.fly_types.specs.Canonical.{tree_bytes}
 use Rattle.fly_types.proofs.Layers.{tree_layer_bytes, tree_bytes-roll}
-use Rattle.fly_types.proofs.Tells.{Tells, heads, tails, flag-tells, signed-tells_8, counted-tells, all-tell, IsEntry, entry_of, entries-tell, are_entries}
+use Rattle.fly_types.proofs.Tells.{Tells, heads, tails, flag_bytes-tells, signed_bytes-tells_8, text_bytes-tells, all-tell, IsEntry, entry_of, entries-tell, are_entries}
 
 exact_fits : (z : ℤ) → IsExactWhole z → FitsSigned w64 z
 exact_fits (pos n) h = record { sfits = omega (arith, h) }
@@ -55,13 +55,13 @@ layer_tells : (z : TreeLayer) → TreesHeld TreeTells z → (w : TreeLayer) (r s
 layer_tells Tree-F.Null t Tree-F.Null r s p q e = (refl, tails _ _ _ _ e)
 layer_tells Tree-F.Null t w r s p q e = let h = heads _ _ _ _ e in absurd (omega (arith, h))
 layer_tells (Tree-F.Bool a) t (Tree-F.Bool b) r s p q e =
-    let h = flag-tells a b r s tt tt (tails _ _ _ _ e) in (ap Tree-F.Bool h.0, h.1)
+    let h = flag_bytes-tells a b r s tt tt (tails _ _ _ _ e) in (ap Tree-F.Bool h.0, h.1)
 layer_tells (Tree-F.Bool a) t w r s p q e = let h = heads _ _ _ _ e in absurd (omega (arith, h))
 layer_tells (Tree-F.Whole a) t (Tree-F.Whole b) r s p q e =
-    let h = signed-tells_8 a b r s (exact_fits a p.0) (exact_fits b q.0) (tails _ _ _ _ e) in (ap Tree-F.Whole h.0, h.1)
+    let h = signed_bytes-tells_8 a b r s (exact_fits a p.0) (exact_fits b q.0) (tails _ _ _ _ e) in (ap Tree-F.Whole h.0, h.1)
 layer_tells (Tree-F.Whole a) t w r s p q e = let h = heads _ _ _ _ e in absurd (omega (arith, h))
 layer_tells (Tree-F.Text a) t (Tree-F.Text b) r s p q e =
-    let h = counted-tells a b r s p.0 q.0 (tails _ _ _ _ e) in (ap Tree-F.Text h.0, h.1)
+    let h = text_bytes-tells a b r s p.0 q.0 (tails _ _ _ _ e) in (ap Tree-F.Text h.0, h.1)
 layer_tells (Tree-F.Text a) t w r s p q e = let h = heads _ _ _ _ e in absurd (omega (arith, h))
 layer_tells (Tree-F.List a) t (Tree-F.List b) r s p q e =
     let h = all-tell HasSoundTreeParts tree_bytes a t b r s p q (tails _ _ _ _ e) in (ap Tree-F.List h.0, h.1)

@@ -13,9 +13,9 @@ use Rattle.fly_types.specs.declared.kinds.LiteralType.TheViews.{roll-out-Literal
 use Rattle.fly_types.specs.declared.kinds.LiteralType.TheFolds.{ind-LiteralType, map-LiteralType, every_here-LiteralType, every_held-LiteralType}
 use Rattle.fly_types.specs.Layer.{TypeLayer}
 use Rattle.fly_types.specs.Sound.{IsShort, IsTypeLayerSound, HasSoundTypeParts}
-use Rattle.fly_types.specs.Canonical.{flag, counted, blob_form, simple_number, type_bytes}
+use Rattle.fly_types.specs.Canonical.{flag_bytes, text_bytes, form_bytes, simple_number, type_bytes}
 use Rattle.fly_types.proofs.Layers.{all_bytes, type_layer_bytes, type_bytes-roll}
-use Rattle.fly_types.proofs.Tells.{Tells, heads, tails, flag-tells, both-tell, counted-tells, AreAll, all-tell}
+use Rattle.fly_types.proofs.Tells.{Tells, heads, tails, flag_bytes-tells, both-tell, text_bytes-tells, AreAll, all-tell}
 
 pub simple_number-tells : (s : Simple) → Tells (λ _. ⊤) (λ k. simple_number k ∷ []) s
 simple_number-tells None None r s p q e = (refl, tails _ _ r s e)
@@ -37,18 +37,18 @@ simple_number-tells Error _ r s p q e = let h = heads _ _ r s e in absurd (omega
 simple_number-tells Struct Struct r s p q e = (refl, tails _ _ r s e)
 simple_number-tells Struct _ r s p q e = let h = heads _ _ r s e in absurd (omega (arith, h))
 
-pub blob_form-tells : (form : BlobType) → Tells (λ f. IsShort f.format) blob_form form
-blob_form-tells form other r s p q e =
-    let h = both-tell IsShort (λ _. ⊤) counted flag form.format form.multipart (counted-tells form.format) (flag-tells form.multipart)
+pub form_bytes-tells : (form : BlobType) → Tells (λ f. IsShort f.format) form_bytes form
+form_bytes-tells form other r s p q e =
+    let h = both-tell IsShort (λ _. ⊤) text_bytes flag_bytes form.format form.multipart (text_bytes-tells form.format) (flag_bytes-tells form.multipart)
     other.format other.multipart r s p tt q tt e in
     (λ i. record { format = h.0 i; multipart = h.1 i }, h.2)
 
-pub texts-tell : (texts : List Text) → Tells (AreAll IsShort) (all_bytes counted) texts
-texts-tell texts = all-tell IsShort counted texts (each texts)
+pub texts-tell : (texts : List Text) → Tells (AreAll IsShort) (all_bytes text_bytes) texts
+texts-tell texts = all-tell IsShort text_bytes texts (each texts)
   where
-    each : (ts : List Text) → AllByRecursion (Tells IsShort counted) ts
+    each : (ts : List Text) → AllByRecursion (Tells IsShort text_bytes) ts
     each [] = tt
-    each (t ∷ ts) = (counted-tells t, each ts)
+    each (t ∷ ts) = (text_bytes-tells t, each ts)
 
 -- the property holds of the types that the layer holds
 abbrev pub TypesHeld : (LiteralType → Type 0) → TypeLayer → Type 0
@@ -91,7 +91,7 @@ layer_tells (LiteralType-F.Map a) t (LiteralType-F.Map b) r s p q e =
     let h = t b r s p.1 q.1 (tails _ _ _ _ e) in (ap LiteralType-F.Map h.0, h.1)
 layer_tells (LiteralType-F.Map a) t w r s p q e = let h = heads _ _ _ _ e in absurd (omega (arith, h))
 layer_tells (LiteralType-F.Blob a) t (LiteralType-F.Blob b) r s p q e =
-    let h = blob_form-tells a b r s p.0 q.0 (tails _ _ _ _ e) in (ap LiteralType-F.Blob h.0, h.1)
+    let h = form_bytes-tells a b r s p.0 q.0 (tails _ _ _ _ e) in (ap LiteralType-F.Blob h.0, h.1)
 layer_tells (LiteralType-F.Blob a) t w r s p q e = let h = heads _ _ _ _ e in absurd (omega (arith, h))
 layer_tells (LiteralType-F.Enum a) t (LiteralType-F.Enum b) r s p q e =
     let h = texts-tell a b r s (p.0.0, recursion_from_All IsShort a p.0.1) (q.0.0, recursion_from_All IsShort b q.0.1) (tails _ _ _ _ e) in

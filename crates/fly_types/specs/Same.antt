@@ -1,68 +1,62 @@
--- What `==` answers on types, trees and literals: whether the two are one.
-use Rattle.std.specs.Prelude.{◌≡◌, ◌↔◌, Bool, IsTrue}
-use Rattle.std.specs.Bool.{Decides}
-use Rattle.std.specs.Cmp.{IsPartialEquivalence, IsEquivalence}
+-- What `==` answers on literals, their types, and what holds them: whether the two are one.
+use Rattle.std.specs.Prelude.{Bool, true, false, ◌&&◌, nat_eq}
+use Rattle.std.specs.Coded.{Coded}
+use base.Stored.{Gv, gnil, gnum, gcons}
+use Rattle.fly_types.specs.declared.kinds.BlobType.{BlobType}
 use Rattle.fly_types.specs.declared.kinds.LiteralType.{LiteralType}
 use Rattle.fly_types.specs.declared.literals.Literal.{Literal}
+use Rattle.fly_types.specs.declared.literals.LiteralMap.{LiteralMap}
 use Rattle.fly_types.specs.declared.literals.Tree.{Tree}
+use Rattle.fly_types.specs.declared.variable.Variable.{Variable}
+use Rattle.fly_types.specs.declared.said.Said.{Said}
+use Rattle.fly_types.specs.contracts.kinds.BlobType as form
 use Rattle.fly_types.specs.contracts.kinds.LiteralType as type
 use Rattle.fly_types.specs.contracts.literals.Literal as literal
+use Rattle.fly_types.specs.contracts.literals.LiteralMap as map
 use Rattle.fly_types.specs.contracts.literals.Tree as tree
-use Rattle.fly_types.specs.Equal.{equal, equal-Decides, equal-laws, equal-partial_laws, answers_equal}
+use Rattle.fly_types.specs.contracts.variable.Variable as variable
+use Rattle.fly_types.specs.contracts.said.Said as said
 
-pub same_type : LiteralType → LiteralType → Bool
+-- whether two codes are one: a code is empty, a number, or a pair of codes
+unfoldable pub same_code : Gv → Gv → Bool
+same_code gnil gnil = true
+same_code gnil (gnum n) = false
+same_code gnil (gcons c d) = false
+same_code (gnum m) gnil = false
+same_code (gnum m) (gnum n) = nat_eq m n
+same_code (gnum m) (gcons c d) = false
+same_code (gcons a b) gnil = false
+same_code (gcons a b) (gnum n) = false
+same_code (gcons a b) (gcons c d) = same_code a c && same_code b d
+
+-- whether two values are one, which they are where their codes are
+unfoldable pub equal : {A : Type 0} → Coded A → A → A → Bool
+equal c a b = same_code (c.code a) (c.code b)
+
+-- whether two forms of blobs are one
+unfoldable pub same_form : BlobType → BlobType → Bool
+same_form = equal form.the_row.coded
+
+-- whether two types are one
+unfoldable pub same_type : LiteralType → LiteralType → Bool
 same_type = equal type.the_row.coded
 
-pub same_type-Decides : (a b : LiteralType) → Decides (same_type a b) (a ≡ b)
-unfolding same_type
-same_type-Decides = equal-Decides type.the_row.coded
-
-pub same_type-laws : IsEquivalence same_type
-unfolding same_type
-same_type-laws = equal-laws type.the_row.coded
-
-pub same_type-partial_laws : IsPartialEquivalence same_type
-unfolding same_type
-same_type-partial_laws = equal-partial_laws type.the_row.coded
-
-pub answers_same_type : (a b : LiteralType) (r : Bool) → (IsTrue r ↔ (a ≡ b)) → r ≡ same_type a b
-unfolding same_type
-answers_same_type = answers_equal type.the_row.coded
-
-pub same_tree : Tree → Tree → Bool
+-- whether two contents of a STRUCT are one
+unfoldable pub same_tree : Tree → Tree → Bool
 same_tree = equal tree.the_row.coded
 
-pub same_tree-Decides : (a b : Tree) → Decides (same_tree a b) (a ≡ b)
-unfolding same_tree
-same_tree-Decides = equal-Decides tree.the_row.coded
-
-pub same_tree-laws : IsEquivalence same_tree
-unfolding same_tree
-same_tree-laws = equal-laws tree.the_row.coded
-
-pub same_tree-partial_laws : IsPartialEquivalence same_tree
-unfolding same_tree
-same_tree-partial_laws = equal-partial_laws tree.the_row.coded
-
-pub answers_same_tree : (a b : Tree) (r : Bool) → (IsTrue r ↔ (a ≡ b)) → r ≡ same_tree a b
-unfolding same_tree
-answers_same_tree = answers_equal tree.the_row.coded
-
-pub same_literal : Literal → Literal → Bool
+-- whether two literals are one
+unfoldable pub same_literal : Literal → Literal → Bool
 same_literal = equal literal.the_row.coded
 
-pub same_literal-Decides : (a b : Literal) → Decides (same_literal a b) (a ≡ b)
-unfolding same_literal
-same_literal-Decides = equal-Decides literal.the_row.coded
+-- whether two maps of literals are one
+unfoldable pub same_map : LiteralMap → LiteralMap → Bool
+same_map = equal map.the_row.coded
 
-pub same_literal-laws : IsEquivalence same_literal
-unfolding same_literal
-same_literal-laws = equal-laws literal.the_row.coded
+-- whether two variables are one
+unfoldable pub same_variable : Variable → Variable → Bool
+same_variable = equal variable.the_row.coded
 
-pub same_literal-partial_laws : IsPartialEquivalence same_literal
-unfolding same_literal
-same_literal-partial_laws = equal-partial_laws literal.the_row.coded
-
-pub answers_same_literal : (a b : Literal) (r : Bool) → (IsTrue r ↔ (a ≡ b)) → r ≡ same_literal a b
-unfolding same_literal
-answers_same_literal = answers_equal literal.the_row.coded
+-- whether two reports of a child are one
+unfoldable pub same_said : Said → Said → Bool
+same_said = equal said.the_row.coded

@@ -1,7 +1,6 @@
 ghost use Rattle.std.specs.Prelude.{◌≡◌, IfOk};
-ghost use Rattle.std.specs.Cmp.{on_per, on_equiv};
 
-use crate::NoMemory;
+use crate::{NoMemory, TryCopy};
 use std::alloc::Global;
 use std::marker::Model;
 
@@ -20,12 +19,14 @@ impl<T> Model for Boxed<T> {
 }
 
 impl<T> Boxed<T> {
+    /// The value.
     pub fn get(&self) -> &T
         ensures { result.now ≡ self.now }
     {
         &self.inner
     }
 
+    /// The value, moved out.
     pub fn into_inner(self) -> T
         ensures { result ≡ self }
     {
@@ -35,12 +36,20 @@ impl<T> Boxed<T> {
 }
 
 impl<T: Drop> Boxed<T> {
+    /// The value, moved to the heap.
     pub fn new(alloc: Global, value: T) -> Result<Boxed<T>, NoMemory>
         ensures { IfOk result (λ b. b ≡ value) }
     {
         Ok(Boxed {
             inner: Box::new(alloc, value)?,
         })
+    }
+}
+
+impl<T: TryCopy> TryCopy for Boxed<T> {
+    fn copy(&self, alloc: Global) -> Result<Boxed<T>, NoMemory> {
+        let value = self.get().copy(alloc)?;
+        Boxed::new(alloc, value)
     }
 }
 

@@ -1,10 +1,11 @@
 ghost use Rattle.std.specs.Prelude.{◌≡◌, ◌↔◌, ◌≤◌, IfOk, IsTrue, map};
 ghost use Rattle.fly_types.specs.Levels.{type_levels, largest};
 
+use crate::same::{is_same_form, is_same_type};
 use crate::{Boxed, List, NoMemory, Text, TryCopy};
 use std::alloc::Global;
 
-/// A type without parts. STRUCT is a JSON object, and NONE the type of no value.
+/// A type without parts, as flyteidl's `SimpleType`. STRUCT is a JSON object, and NONE the type of no value.
 #[derive(Clone, Copy, Debug, PartialEq, Eq)]
 pub enum Simple {
     None,
@@ -18,8 +19,8 @@ pub enum Simple {
     Struct,
 }
 
-/// The form of a blob: its format, and whether it is one file or a folder of parts.
-#[derive(Debug, Drop, PartialEq, Eq)]
+/// The form of a blob, as flyteidl's `BlobType`: its format, and whether it is one file or a folder of parts.
+#[derive(Debug, Drop)]
 pub struct BlobType {
     pub format: Text,
     pub multipart: bool,
@@ -29,14 +30,19 @@ pub struct BlobType {
 #[derive(Debug, Drop)]
 pub enum LiteralType {
     Simple(Simple),
+    /// Of each element.
     Collection(Boxed<LiteralType>),
+    /// Of each value; the keys are texts.
     Map(Boxed<LiteralType>),
     Blob(BlobType),
+    /// The texts that it has.
     Enum(List<Text>),
+    /// The variants, of which a union scalar names its own.
     Union(List<LiteralType>),
 }
 
 impl BlobType {
+    /// A second one.
     pub fn copy(&self, alloc: Global) -> Result<BlobType, NoMemory>
         ensures { IfOk result (λ c. c ≡ self.now) }
     {
@@ -53,7 +59,31 @@ impl TryCopy for BlobType {
     }
 }
 
+impl PartialEq for BlobType {
+    ghost use Rattle.std.specs.Prelude.{◌≡◌, ◌↔◌, IsTrue};
+    ghost use Rattle.fly_types.specs.Same.{same_form};
+    ghost use Rattle.fly_types.specs.Laws.{same_form-partial_laws};
+
+    ghost eq = { same_form };
+
+    ghost laws = { same_form-partial_laws };
+
+    fn eq(&self, other: &BlobType) -> bool
+        ensures value { result ≡ same_form self.now other.now }
+        ensures same { IsTrue result ↔ (self.now ≡ other.now) }
+    {
+        is_same_form(self, other)
+    }
+}
+
+impl Eq for BlobType {
+    ghost use Rattle.fly_types.specs.Laws.{same_form-laws};
+
+    ghost laws = { same_form-laws };
+}
+
 impl LiteralType {
+    /// A second one.
     #[cycle(copy_type)]
     pub fn copy(&self, alloc: Global) -> Result<LiteralType, NoMemory>
         ensures { IfOk result (λ c. c ≡ self.now) }
@@ -76,92 +106,14 @@ impl LiteralType {
             }
         }
     }
-}
 
-#[cycle(copy_type)]
-fn copy_types(alloc: Global, types: &[LiteralType]) -> Result<Vec<LiteralType>, NoMemory>
-    ensures { IfOk result (λ c. c.items ≡ types.now) }
-{
-    let mut copied = Vec::with_capacity(alloc, types.len())?;
-    for kind in types {
-        copied.push(kind.copy(alloc)?)?;
-    }
-    Ok(copied)
-}
-
-impl PartialEq for LiteralType {
-    ghost use Rattle.std.specs.Prelude.{◌≡◌, ◌↔◌, IsTrue};
-    ghost use Rattle.fly_types.specs.Same.{same_type, same_type-partial_laws};
-
-    ghost eq = { same_type };
-
-    ghost laws = { same_type-partial_laws };
-
-    fn eq(&self, other: &LiteralType) -> bool
-        ensures value { result ≡ same_type self.now other.now }
-        ensures same { IsTrue result ↔ (self.now ≡ other.now) }
-    {
-        self.is_same(other)
-    }
-}
-
-impl Eq for LiteralType {
-    ghost use Rattle.fly_types.specs.Same.{same_type-laws};
-
-    ghost laws = { same_type-laws };
-}
-
-impl LiteralType {
     /// What `==` answers, for callers that want it as equality.
-    #[cycle(same_type)]
     pub fn is_same(&self, other: &LiteralType) -> bool
         ensures { IsTrue result ↔ (self.now ≡ other.now) }
     {
-        match self {
-            LiteralType::Simple(a) => match other {
-                LiteralType::Simple(b) => a == b,
-                _ => false,
-            },
-            LiteralType::Collection(a) => match other {
-                LiteralType::Collection(b) => a.get().is_same(b.get()),
-                _ => false,
-            },
-            LiteralType::Map(a) => match other {
-                LiteralType::Map(b) => a.get().is_same(b.get()),
-                _ => false,
-            },
-            LiteralType::Blob(a) => match other {
-                LiteralType::Blob(b) => a == b,
-                _ => false,
-            },
-            LiteralType::Enum(a) => match other {
-                LiteralType::Enum(b) => a == b,
-                _ => false,
-            },
-            LiteralType::Union(a) => match other {
-                LiteralType::Union(b) => are_same_types(a.as_slice(), b.as_slice()),
-                _ => false,
-            },
-        }
+        is_same_type(self, other)
     }
-}
 
-#[cycle(same_type)]
-fn are_same_types(ones: &[LiteralType], others: &[LiteralType]) -> bool
-    ensures { IsTrue result ↔ (ones.now ≡ others.now) }
-{
-    if ones.len() != others.len() {
-        return false;
-    }
-    for (i, one) in ones.iter().enumerate() {
-        if !one.is_same(&others[i]) {
-            return false;
-        }
-    }
-    true
-}
-
-impl LiteralType {
     /// Whether the type has at most so many levels. A type without parts is one level, and a collection, a map or a
     /// union one more than its deepest part.
     #[cycle(levels)]
@@ -180,6 +132,17 @@ impl LiteralType {
     }
 }
 
+#[cycle(copy_type)]
+fn copy_types(alloc: Global, types: &[LiteralType]) -> Result<Vec<LiteralType>, NoMemory>
+    ensures { IfOk result (λ c. c.items ≡ types.now) }
+{
+    let mut copied = Vec::with_capacity(alloc, types.len())?;
+    for kind in types {
+        copied.push(kind.copy(alloc)?)?;
+    }
+    Ok(copied)
+}
+
 #[cycle(levels)]
 fn have_at_most(kinds: &[LiteralType], levels: usize) -> bool
     ensures { IsTrue result ↔ (largest (map type_levels kinds.now) ≤ levels) }
@@ -196,4 +159,27 @@ impl TryCopy for LiteralType {
     fn copy(&self, alloc: Global) -> Result<LiteralType, NoMemory> {
         LiteralType::copy(self, alloc)
     }
+}
+
+impl PartialEq for LiteralType {
+    ghost use Rattle.std.specs.Prelude.{◌≡◌, ◌↔◌, IsTrue};
+    ghost use Rattle.fly_types.specs.Same.{same_type};
+    ghost use Rattle.fly_types.specs.Laws.{same_type-partial_laws};
+
+    ghost eq = { same_type };
+
+    ghost laws = { same_type-partial_laws };
+
+    fn eq(&self, other: &LiteralType) -> bool
+        ensures value { result ≡ same_type self.now other.now }
+        ensures same { IsTrue result ↔ (self.now ≡ other.now) }
+    {
+        is_same_type(self, other)
+    }
+}
+
+impl Eq for LiteralType {
+    ghost use Rattle.fly_types.specs.Laws.{same_type-laws};
+
+    ghost laws = { same_type-laws };
 }

@@ -1,4 +1,4 @@
-ghost use Rattle.std.specs.Prelude.{◌≡◌, ◌↔◌, [], ◌∷◌, ◌++◌, length, slice_get, IsTrue, IfOk, OnOk, OnErr};
+ghost use Rattle.std.specs.Prelude.{◌≡◌, ◌↔◌, ◌<◌, ◌^◌, [], length, slice_get, IsTrue, IfOk};
 ghost use Rattle.std.specs.Option.{option_copied};
 ghost use Rattle.std.specs.Cmp.Lexicographic.{pointwise, lists_per, lists_equiv};
 
@@ -24,12 +24,16 @@ impl<T> Model for List<T> {
 }
 
 impl<T> List<T> {
+    /// The list that a `Vec` is.
     pub fn from_vec(items: Vec<T>) -> List<T>
-        ensures { result ≡ items.items }
+        ensures value { result ≡ items.items }
+        ensures bound { length result < 2 ^ 64 }
     {
+        let _length = items.len();
         List { items }
     }
 
+    /// The elements as a `Vec`, without a copy.
     pub fn into_vec(self) -> Vec<T>
         ensures { result.items ≡ self }
     {
@@ -43,8 +47,10 @@ impl<T> List<T> {
         self.items.as_slice()
     }
 
+    /// How many elements there are.
     pub fn len(&self) -> usize
-        ensures { result ≡ length self.now }
+        ensures value { result ≡ length self.now }
+        ensures bound { length self.now < 2 ^ 64 }
     {
         self.items.len()
     }
@@ -55,6 +61,7 @@ impl<T> List<T> {
         self.items.is_empty()
     }
 
+    /// The element at this place, counted from 0.
     pub fn get(&self, at: usize) -> Option<&T>
         ensures { option_copied result ≡ slice_get self.now at }
     {
@@ -64,11 +71,13 @@ impl<T> List<T> {
 
 /// A value that holds lists or texts, so that a second one takes memory.
 pub trait TryCopy: Drop {
+    /// A second one.
     fn copy(&self, alloc: Global) -> Result<Self, NoMemory>
         ensures { IfOk result (λ c. c ≡ self.now) };
 }
 
 impl<T: TryCopy> List<T> {
+    /// A second one.
     pub fn copy(&self, alloc: Global) -> Result<List<T>, NoMemory>
         ensures { IfOk result (λ c. c ≡ self.now) }
     {
@@ -83,6 +92,15 @@ impl<T: TryCopy> List<T> {
 impl<A: TryCopy, B: TryCopy> TryCopy for (A, B) {
     fn copy(&self, alloc: Global) -> Result<(A, B), NoMemory> {
         Ok((self.0.copy(alloc)?, self.1.copy(alloc)?))
+    }
+}
+
+impl<T: TryCopy> TryCopy for Option<T> {
+    fn copy(&self, alloc: Global) -> Result<Option<T>, NoMemory> {
+        match self {
+            Some(value) => Ok(Some(value.copy(alloc)?)),
+            None => Ok(None),
+        }
     }
 }
 

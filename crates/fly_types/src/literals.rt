@@ -1,84 +1,81 @@
 ghost use Rattle.std.specs.Prelude.{◌≡◌, ◌↔◌, IfOk, IsTrue};
+ghost use Rattle.std.specs.Option.{option_copied};
+ghost use Rattle.fly_types.specs.Sound.{AreNamesSorted};
+ghost use Rattle.fly_types.specs.Lookup.{value_of};
 
+use crate::lookup::find_value;
+use crate::same::{are_same_entries, is_same_literal, is_same_tree};
 use crate::{BlobType, Boxed, Bytes, List, LiteralType, NoMemory, Text, TryCopy};
 use std::alloc::Global;
 
-/// A JSON value whose numbers are whole, as the content of a STRUCT.
+/// A JSON value whose numbers are whole, as the content of a STRUCT (protobuf's `Struct`).
 #[derive(Debug, Drop)]
 pub enum Tree {
     Null,
     Bool(bool),
+    /// At most 2^53 - 1 either way in a sound value, so that a JSON number has it exactly.
     Whole(i64),
     Text(Text),
     List(List<Tree>),
+    /// Members by key, in the order of the keys' bytes, each key once in a sound value.
     Object(List<(Text, Tree)>),
 }
 
-/// A value of a workflow, as flyteidl's `Literal`.
+/// A value of a workflow, as flyteidl's `Literal`. Ranges and orders are those of a sound value.
 #[derive(Debug, Drop)]
 pub enum Literal {
+    /// The value of the type NONE.
     None,
     Integer(i64),
     Text(Text),
     Boolean(bool),
+    /// Seconds since 1970-01-01T00:00:00Z, from 0001-01-01T00:00:00Z to 9999-12-31T23:59:59Z, and 0 to 999,999,999
+    /// nanoseconds after that second, also where it is negative.
     Datetime {
         seconds: i64,
         nanos: u32,
     },
+    /// At most 315,576,000,000 seconds either way in all; the nanoseconds are below a second either way, and have no
+    /// other sign than the seconds.
     Duration {
         seconds: i64,
         nanos: i32,
     },
+    /// Where a blob lies, and its form.
     Blob {
         uri: Text,
         form: BlobType,
     },
+    /// Bytes, and the tag that says how they are to be read.
     Binary {
         value: Bytes,
         tag: Text,
     },
+    /// The message of an error, and the node that failed.
     Error {
         node: Text,
         message: Text,
     },
+    /// A STRUCT, which is an object.
     Generic(Tree),
+    /// A value of a union type, with the variant that it is of.
     Union {
         value: Boxed<Literal>,
         variant: Boxed<LiteralType>,
     },
     Collection(List<Literal>),
+    /// Values by name, in the order of the names' bytes, each name once.
     Map(List<(Text, Literal)>),
 }
 
 /// Literals by name, as flyteidl's `LiteralMap`. The entries are sorted by name, and the names differ.
-#[derive(Debug, Drop, PartialEq, Eq)]
+#[derive(Debug, Drop)]
 pub struct LiteralMap {
     pub entries: List<(Text, Literal)>,
 }
 
-/// An input or an output of an interface: its name and its type.
-#[derive(Debug, Drop, PartialEq, Eq)]
-pub struct Variable {
-    pub name: Text,
-    pub kind: LiteralType,
-}
-
-/// What a child's standard output says of its task.
-#[derive(Debug, Drop, PartialEq, Eq)]
-pub enum Said {
-    Outputs(LiteralMap),
-    Error {
-        code: Text,
-        message: Text,
-        recoverable: bool,
-    },
-    /// More bytes than a document may have.
-    TooLarge,
-    /// Bytes that are not the document that the status calls for.
-    Neither,
-}
-
 impl Tree {
+    /// A second one.
     #[cycle(copy_tree)]
     pub fn copy(&self, alloc: Global) -> Result<Tree, NoMemory>
         ensures { IfOk result (λ c. c ≡ self.now) }
@@ -97,6 +94,13 @@ impl Tree {
                 Ok(Tree::Object(List::from_vec(copied)))
             }
         }
+    }
+
+    /// What `==` answers, for callers that want it as equality.
+    pub fn is_same(&self, other: &Tree) -> bool
+        ensures { IsTrue result ↔ (self.now ≡ other.now) }
+    {
+        is_same_tree(self, other)
     }
 }
 
@@ -125,7 +129,8 @@ fn copy_members(alloc: Global, members: &[(Text, Tree)]) -> Result<Vec<(Text, Tr
 
 impl PartialEq for Tree {
     ghost use Rattle.std.specs.Prelude.{◌≡◌, ◌↔◌, IsTrue};
-    ghost use Rattle.fly_types.specs.Same.{same_tree, same_tree-partial_laws};
+    ghost use Rattle.fly_types.specs.Same.{same_tree};
+    ghost use Rattle.fly_types.specs.Laws.{same_tree-partial_laws};
 
     ghost eq = { same_tree };
 
@@ -135,80 +140,14 @@ impl PartialEq for Tree {
         ensures value { result ≡ same_tree self.now other.now }
         ensures same { IsTrue result ↔ (self.now ≡ other.now) }
     {
-        self.is_same(other)
+        is_same_tree(self, other)
     }
 }
 
 impl Eq for Tree {
-    ghost use Rattle.fly_types.specs.Same.{same_tree-laws};
+    ghost use Rattle.fly_types.specs.Laws.{same_tree-laws};
 
     ghost laws = { same_tree-laws };
-}
-
-impl Tree {
-    /// What `==` answers, for callers that want it as equality.
-    #[cycle(same_tree)]
-    pub fn is_same(&self, other: &Tree) -> bool
-        ensures { IsTrue result ↔ (self.now ≡ other.now) }
-    {
-        match self {
-            Tree::Null => match other {
-                Tree::Null => true,
-                _ => false,
-            },
-            Tree::Bool(a) => match other {
-                Tree::Bool(b) => a == b,
-                _ => false,
-            },
-            Tree::Whole(a) => match other {
-                Tree::Whole(b) => a == b,
-                _ => false,
-            },
-            Tree::Text(a) => match other {
-                Tree::Text(b) => a == b,
-                _ => false,
-            },
-            Tree::List(a) => match other {
-                Tree::List(b) => are_same_trees(a.as_slice(), b.as_slice()),
-                _ => false,
-            },
-            Tree::Object(a) => match other {
-                Tree::Object(b) => are_same_members(a.as_slice(), b.as_slice()),
-                _ => false,
-            },
-        }
-    }
-}
-
-#[cycle(same_tree)]
-fn are_same_trees(ones: &[Tree], others: &[Tree]) -> bool
-    ensures { IsTrue result ↔ (ones.now ≡ others.now) }
-{
-    if ones.len() != others.len() {
-        return false;
-    }
-    for (i, one) in ones.iter().enumerate() {
-        if !one.is_same(&others[i]) {
-            return false;
-        }
-    }
-    true
-}
-
-#[cycle(same_tree)]
-fn are_same_members(ones: &[(Text, Tree)], others: &[(Text, Tree)]) -> bool
-    ensures { IsTrue result ↔ (ones.now ≡ others.now) }
-{
-    if ones.len() != others.len() {
-        return false;
-    }
-    for (i, (name, one)) in ones.iter().enumerate() {
-        let (other_name, other) = &others[i];
-        if name != other_name || !one.is_same(other) {
-            return false;
-        }
-    }
-    true
 }
 
 impl TryCopy for Tree {
@@ -218,6 +157,7 @@ impl TryCopy for Tree {
 }
 
 impl Literal {
+    /// A second one.
     #[cycle(copy_literal)]
     pub fn copy(&self, alloc: Global) -> Result<Literal, NoMemory>
         ensures { IfOk result (λ c. c ≡ self.now) }
@@ -266,6 +206,13 @@ impl Literal {
             }
         }
     }
+
+    /// What `==` answers, for callers that want it as equality.
+    pub fn is_same(&self, other: &Literal) -> bool
+        ensures { IsTrue result ↔ (self.now ≡ other.now) }
+    {
+        is_same_literal(self, other)
+    }
 }
 
 #[cycle(copy_literal)]
@@ -296,7 +243,8 @@ fn copy_entries(
 
 impl PartialEq for Literal {
     ghost use Rattle.std.specs.Prelude.{◌≡◌, ◌↔◌, IsTrue};
-    ghost use Rattle.fly_types.specs.Same.{same_literal, same_literal-partial_laws};
+    ghost use Rattle.fly_types.specs.Same.{same_literal};
+    ghost use Rattle.fly_types.specs.Laws.{same_literal-partial_laws};
 
     ghost eq = { same_literal };
 
@@ -306,103 +254,14 @@ impl PartialEq for Literal {
         ensures value { result ≡ same_literal self.now other.now }
         ensures same { IsTrue result ↔ (self.now ≡ other.now) }
     {
-        self.is_same(other)
+        is_same_literal(self, other)
     }
 }
 
 impl Eq for Literal {
-    ghost use Rattle.fly_types.specs.Same.{same_literal-laws};
+    ghost use Rattle.fly_types.specs.Laws.{same_literal-laws};
 
     ghost laws = { same_literal-laws };
-}
-
-impl Literal {
-    /// What `==` answers, for callers that want it as equality.
-    #[cycle(same_literal)]
-    pub fn is_same(&self, other: &Literal) -> bool
-        ensures { IsTrue result ↔ (self.now ≡ other.now) }
-    {
-        match self {
-            Literal::None => matches!(other, Literal::None),
-            Literal::Integer(a) => matches!(other, Literal::Integer(b) if a == b),
-            Literal::Text(a) => matches!(other, Literal::Text(b) if a == b),
-            Literal::Boolean(a) => matches!(other, Literal::Boolean(b) if a == b),
-            Literal::Datetime {
-                seconds: s,
-                nanos: n,
-            } => {
-                matches!(other, Literal::Datetime { seconds, nanos } if s == seconds && n == nanos)
-            }
-            Literal::Duration {
-                seconds: s,
-                nanos: n,
-            } => {
-                matches!(other, Literal::Duration { seconds, nanos } if s == seconds && n == nanos)
-            }
-            Literal::Blob { uri: u, form: f } => {
-                matches!(other, Literal::Blob { uri, form } if u == uri && f == form)
-            }
-            Literal::Binary { value: v, tag: t } => {
-                matches!(other, Literal::Binary { value, tag } if v == value && t == tag)
-            }
-            Literal::Error {
-                node: n,
-                message: m,
-            } => { matches!(other, Literal::Error { node, message } if n == node && m == message) }
-            Literal::Generic(a) => match other {
-                Literal::Generic(b) => a.is_same(b),
-                _ => false,
-            },
-            Literal::Union {
-                value: a,
-                variant: t,
-            } => match other {
-                Literal::Union { value: b, variant } => {
-                    t.get().is_same(variant.get()) && a.get().is_same(b.get())
-                }
-                _ => false,
-            },
-            Literal::Collection(a) => match other {
-                Literal::Collection(b) => are_same_literals(a.as_slice(), b.as_slice()),
-                _ => false,
-            },
-            Literal::Map(a) => match other {
-                Literal::Map(b) => are_same_entries(a.as_slice(), b.as_slice()),
-                _ => false,
-            },
-        }
-    }
-}
-
-#[cycle(same_literal)]
-fn are_same_literals(ones: &[Literal], others: &[Literal]) -> bool
-    ensures { IsTrue result ↔ (ones.now ≡ others.now) }
-{
-    if ones.len() != others.len() {
-        return false;
-    }
-    for (i, one) in ones.iter().enumerate() {
-        if !one.is_same(&others[i]) {
-            return false;
-        }
-    }
-    true
-}
-
-#[cycle(same_literal)]
-fn are_same_entries(ones: &[(Text, Literal)], others: &[(Text, Literal)]) -> bool
-    ensures { IsTrue result ↔ (ones.now ≡ others.now) }
-{
-    if ones.len() != others.len() {
-        return false;
-    }
-    for (i, (name, one)) in ones.iter().enumerate() {
-        let (other_name, other) = &others[i];
-        if name != other_name || !one.is_same(other) {
-            return false;
-        }
-    }
-    true
 }
 
 impl TryCopy for Literal {
@@ -412,6 +271,15 @@ impl TryCopy for Literal {
 }
 
 impl LiteralMap {
+    /// The literal under the name. Takes no memory, and as many comparisons of names as the entries can be halved.
+    pub fn get(&self, name: &Text) -> Option<&Literal>
+        requires { AreNamesSorted self.now.entries }
+        ensures { option_copied result ≡ value_of self.now.entries name.now }
+    {
+        find_value(self.entries.as_slice(), name)
+    }
+
+    /// A second one.
     pub fn copy(&self, alloc: Global) -> Result<LiteralMap, NoMemory>
         ensures { IfOk result (λ c. c ≡ self.now) }
     {
@@ -420,9 +288,7 @@ impl LiteralMap {
             entries: List::from_vec(copied),
         })
     }
-}
 
-impl LiteralMap {
     /// What `==` answers, for callers that want it as equality.
     pub fn is_same(&self, other: &LiteralMap) -> bool
         ensures { IsTrue result ↔ (self.now ≡ other.now) }
@@ -437,40 +303,25 @@ impl TryCopy for LiteralMap {
     }
 }
 
-impl Variable {
-    pub fn copy(&self, alloc: Global) -> Result<Variable, NoMemory>
-        ensures { IfOk result (λ c. c ≡ self.now) }
+impl PartialEq for LiteralMap {
+    ghost use Rattle.std.specs.Prelude.{◌≡◌, ◌↔◌, IsTrue};
+    ghost use Rattle.fly_types.specs.Same.{same_map};
+    ghost use Rattle.fly_types.specs.Laws.{same_map-partial_laws};
+
+    ghost eq = { same_map };
+
+    ghost laws = { same_map-partial_laws };
+
+    fn eq(&self, other: &LiteralMap) -> bool
+        ensures value { result ≡ same_map self.now other.now }
+        ensures same { IsTrue result ↔ (self.now ≡ other.now) }
     {
-        Ok(Variable {
-            name: self.name.copy(alloc)?,
-            kind: self.kind.copy(alloc)?,
-        })
+        self.is_same(other)
     }
 }
 
-impl TryCopy for Variable {
-    fn copy(&self, alloc: Global) -> Result<Variable, NoMemory> {
-        Variable::copy(self, alloc)
-    }
-}
+impl Eq for LiteralMap {
+    ghost use Rattle.fly_types.specs.Laws.{same_map-laws};
 
-impl Said {
-    pub fn copy(&self, alloc: Global) -> Result<Said, NoMemory>
-        ensures { IfOk result (λ c. c ≡ self.now) }
-    {
-        match self {
-            Said::Outputs(outputs) => Ok(Said::Outputs(outputs.copy(alloc)?)),
-            Said::Error {
-                code,
-                message,
-                recoverable,
-            } => Ok(Said::Error {
-                code: code.copy(alloc)?,
-                message: message.copy(alloc)?,
-                recoverable: *recoverable,
-            }),
-            Said::TooLarge => Ok(Said::TooLarge),
-            Said::Neither => Ok(Said::Neither),
-        }
-    }
+    ghost laws = { same_map-laws };
 }

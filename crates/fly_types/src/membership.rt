@@ -3,6 +3,7 @@ ghost use Rattle.std.specs.List.{All};
 ghost use Rattle.fly_types.specs.declared.literals.Literal.{out-Literal};
 ghost use Rattle.fly_types.specs.Membership.{IsMember, IsCollectionOf, IsMapOf, IsBlobOf, IsTextAmong, IsUnionWhere, IsVariant, simple_type};
 
+use crate::same::is_same_form;
 use crate::{BlobType, List, Literal, LiteralType, Simple, Text};
 
 /// Whether the literal is of the type. A union scalar is of a union type where its variant is one of the type's and
@@ -101,7 +102,7 @@ fn is_blob_of(literal: &Literal, form: &BlobType) -> bool
         Literal::Blob {
             uri: _,
             form: its_form,
-        } => its_form == form,
+        } => is_same_form(its_form, form),
         _ => false,
     }
 }

@@ -1,4 +1,4 @@
-ghost use Rattle.std.specs.Prelude.{◌≡◌, ◌↔◌, ℕ, List, Some, IfOk, IsTrue, refl, nat_eq, string_bytes};
+ghost use Rattle.std.specs.Prelude.{◌≡◌, ◌↔◌, ℕ, ◌<◌, ◌^◌, List, [], length, Some, IfOk, IsTrue, refl, nat_eq, string_bytes};
 ghost use Rattle.std.proofs.Common.{rules};
 ghost use Rattle.std.specs.Ordering.{nat_cmp};
 ghost use Rattle.std.specs.Hash as fed;
@@ -25,19 +25,26 @@ impl Model for Text {
 }
 
 impl Text {
+    /// The text that a `String` is.
     pub fn from_string(text: String) -> Text
-        ensures { result ≡ string_bytes text }
+        ensures value { result ≡ string_bytes text }
+        ensures bound { length result < 2 ^ 64 }
     {
+        let _length = text.len();
         Text { text }
     }
 
+    /// A text with a copy of these bytes.
     pub fn from_str(alloc: Global, text: &str) -> Result<Text, NoMemory>
-        ensures { IfOk result (λ t. t ≡ text.now) }
+        ensures value { IfOk result (λ t. t ≡ text.now) }
+        ensures bound { IfOk result (λ t. length t < 2 ^ 64) }
     {
+        let _length = text.len();
         let text = String::from_str(alloc, text)?;
         Ok(Text { text })
     }
 
+    /// The text as a `String`, without a copy.
     pub fn into_string(self) -> String
         ensures { string_bytes result ≡ self }
     {
@@ -51,6 +58,22 @@ impl Text {
         self.text.as_str()
     }
 
+    /// How many bytes the text has.
+    pub fn len(&self) -> usize
+        ensures value { result ≡ length self.now }
+        ensures bound { length self.now < 2 ^ 64 }
+    {
+        self.as_str().len()
+    }
+
+    /// Whether this is the empty text.
+    pub fn is_empty(&self) -> bool
+        ensures { IsTrue result ↔ (self.now ≡ []) }
+    {
+        self.as_str().is_empty()
+    }
+
+    /// A second one.
     pub fn copy(&self, alloc: Global) -> Result<Text, NoMemory>
         ensures { IfOk result (λ t. t ≡ self.now) }
     {

@@ -1,56 +1,49 @@
 //! The small types over a text, bytes, a list and a box, each at a concrete type.
-use super::{scalar, text};
-use crate::{
-    Boxed, Bytes, List, LiteralMap, NoMemory, Simple, Text, maps_have_own_bytes, simple_type,
-};
-use std::alloc::Global;
+use super::text;
+use crate::{Boxed, Bytes, List, Text, TryCopy};
 use std::test::Fail;
 
 #[test]
-fn texts_and_bytes(rt: HostRuntime) -> Result<(), Fail> {
+fn a_text(rt: HostRuntime) -> Result<(), Fail> {
     let alloc = rt.alloc();
     let red = Text::from_string(String::from_str(alloc, "red")?);
     let green = text(alloc, "green")?;
     assert!(rt; green < red && red != green);
+    assert!(rt; red.len() == 3 && !red.is_empty());
     assert_eq!(rt; red.copy(alloc)?, red);
     assert_eq!(rt; red.into_string().as_str(), "red");
+    Ok(())
+}
+
+#[test]
+fn a_byte_string(rt: HostRuntime) -> Result<(), Fail> {
+    let alloc = rt.alloc();
     let bytes = Bytes::from_vec(Vec::from_slice(alloc, &[1, 2])?);
+    assert!(rt; bytes.len() == 2 && !bytes.is_empty());
     assert_eq!(rt; bytes.copy(alloc)?, bytes);
     assert_eq!(rt; bytes.into_vec().as_slice(), [1, 2].as_slice());
     Ok(())
 }
 
 #[test]
-fn lists_and_boxes(rt: HostRuntime) -> Result<(), Fail> {
+fn a_list(rt: HostRuntime) -> Result<(), Fail> {
     let alloc = rt.alloc();
     let list = List::from_vec(vec![in alloc; text(alloc, "a")?]?);
-    assert_eq!(rt; list.get(0), Some(&text(alloc, "a")?));
-    assert_eq!(rt; list.get(1), None);
+    assert!(rt; list.get(0).is_some() && list.get(1).is_none());
     assert!(rt; list.len() == 1 && !list.is_empty());
     assert_eq!(rt; list.copy(alloc)?, list);
     assert_eq!(rt; list.into_vec().len(), 1);
-    let boxed = Boxed::new(alloc, 5u8)?;
-    assert_eq!(rt; boxed, Boxed::new(alloc, 5u8)?);
-    assert_eq!(rt; boxed.into_inner(), 5);
     Ok(())
 }
 
-/// The map whose only entry is a literal of the simple type.
-fn only(alloc: Global, simple: Simple) -> Result<LiteralMap, NoMemory> {
-    let entries = vec![in alloc; (text(alloc, "x")?, scalar(alloc, simple)?)]?;
-    Ok(LiteralMap {
-        entries: List::from_vec(entries),
-    })
-}
-
 #[test]
-fn maps_and_simple_types(rt: HostRuntime) -> Result<(), Fail> {
+fn a_box(rt: HostRuntime) -> Result<(), Fail> {
     let alloc = rt.alloc();
-    maps_have_own_bytes();
-    let one = only(alloc, Simple::Datetime)?;
-    assert!(rt; one.is_same(&only(alloc, Simple::Datetime)?));
-    assert!(rt; !one.is_same(&only(alloc, Simple::Duration)?));
-    let duration = scalar(alloc, Simple::Duration)?;
-    assert_eq!(rt; simple_type(&duration), Some(Simple::Duration));
+    let boxed = Some(Boxed::new(alloc, text(alloc, "a")?)?);
+    let copied = boxed.copy(alloc)?;
+    assert!(rt; copied == boxed);
+    if let Some(boxed) = boxed {
+        assert_eq!(rt; boxed.into_inner().as_str(), "a");
+    }
     Ok(())
 }

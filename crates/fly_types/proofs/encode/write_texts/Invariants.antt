@@ -1,7 +1,0 @@
-use Rattle.std.proofs.Common.{◌≡◌, ◌++◌, map, take}
-use Rattle.std.specs.List.{concat}
-use Rattle.fly_types.specs.Canonical.{counted}
-use Rattle.fly_types.proofs.encode.write_texts.Given as goal
-
-abbrev pub invariant-loop-text : goal.invariant-loop-text
-invariant-loop-text l = l.out.items ≡ l.initial.out.items ++ concat (map counted (take l.text-index l.texts))
