@@ -19,7 +19,8 @@ use Rattle.fly_cast.proofs.Lists.{each-map}
 use Rattle.fly_cast.proofs.Converts.{member-at}
 
 values-mapped : (entries : List (Text × Literal))
-    → map (λ (e : Text × ℕ). e.1) (map (λ (e : Text × Literal). (e.0, literal_levels e.1)) entries) ≡ map (λ (e : Text × Literal). literal_levels e.1) entries
+    → map (λ (e : Text × ℕ). e.1) (map (λ (e : Text × Literal). (e.0, literal_levels e.1)) entries)
+    ≡ map (λ (e : Text × Literal). literal_levels e.1) entries
 values-mapped [] = refl
 values-mapped (e ∷ es) = ap (λ ns. literal_levels e.1 ∷ ns) (values-mapped es)
 
@@ -31,17 +32,21 @@ depth _ = 0
 
 layer-depth : (l : Literal) (m : LiteralLayer) → out-Literal l ≡ m → literal_levels l ≡ depth m
 layer-depth l (Literal-F.Map entries) e =
-    fold_out-Literal ℕ literal_levels_by l ∙ ap (λ d. literal_levels_by (map-Literal Literal ℕ literal_levels d)) e ∙ ap (λ ns. 1 + largest ns) (values-mapped entries)
-layer-depth l _ e = fold_out-Literal ℕ literal_levels_by l ∙ ap (λ d. literal_levels_by (map-Literal Literal ℕ literal_levels d)) e
+    fold_out-Literal ℕ literal_levels_by l ∙ ap (λ d. literal_levels_by (map-Literal Literal ℕ literal_levels d)) e
+    ∙ ap (λ ns. 1 + largest ns) (values-mapped entries)
+layer-depth l _ e = fold_out-Literal ℕ literal_levels_by l
+    ∙ ap (λ d. literal_levels_by (map-Literal Literal ℕ literal_levels d)) e
 
 largest-least : {X : Type 0} (f : X → ℕ) (n : ℕ) (xs : List X) → Each (λ x. f x ≤ n) xs → largest (map f xs) ≤ n
 largest-least f n [] h = omega arith
-largest-least f n (x ∷ xs) h = let here : f x ≤ n = h.0 in let rest : largest (map f xs) ≤ n = largest-least f n xs h.1 in omega arith
+largest-least f n (x ∷ xs) h = let here : f x ≤ n = h.0 in let rest : largest (map f xs) ≤ n =
+    largest-least f n xs h.1 in omega arith
 
 -- ---- at types of so many levels
 
 abbrev BelowWithin : ℕ → Type 0
-BelowWithin n = (l : Literal) (t : LiteralType) → type_levels t ≤ n → IsMember t l → literal_levels l + 1 ≤ type_levels t
+BelowWithin n = (l : Literal) (t : LiteralType) → type_levels t ≤ n → IsMember t l
+    → literal_levels l + 1 ≤ type_levels t
 
 simple-below : (s : Simple) (m : LiteralLayer) → simple_type m ≡ Some s → depth m ≡ 0
 simple-below s (Literal-F.Union value variant) e = cc
@@ -65,7 +70,8 @@ union-below n ts (Literal-F.Union value variant) below le h =
     omega (arith, of.0)
 union-below n ts _ below le h = absurd h
 
-collection-below : (n : ℕ) (x : LiteralType) (m : LiteralLayer) → BelowWithin n → type_levels x ≤ n → IsCollectionOf (IsMember x) m → depth m ≤ type_levels x
+collection-below : (n : ℕ) (x : LiteralType) (m : LiteralLayer) → BelowWithin n → type_levels x ≤ n
+    → IsCollectionOf (IsMember x) m → depth m ≤ type_levels x
 collection-below n x (Literal-F.Collection elements) below le h =
     let low : largest (map literal_levels elements) ≤ type_levels x - 1 =
     largest-least literal_levels (type_levels x - 1) elements
@@ -74,22 +80,27 @@ collection-below n x (Literal-F.Collection elements) below le h =
     omega (arith, type_levels-positive x)
 collection-below n x _ below le h = absurd h
 
-map-below : (n : ℕ) (x : LiteralType) (m : LiteralLayer) → BelowWithin n → type_levels x ≤ n → IsMapOf (IsMember x) m → depth m ≤ type_levels x
+map-below : (n : ℕ) (x : LiteralType) (m : LiteralLayer) → BelowWithin n → type_levels x ≤ n → IsMapOf (IsMember x) m
+    → depth m ≤ type_levels x
 map-below n x (Literal-F.Map entries) below le h =
     let low : largest (map (λ (e : Text × Literal). literal_levels e.1) entries) ≤ type_levels x - 1 =
     largest-least (λ (e : Text × Literal). literal_levels e.1) (type_levels x - 1) entries
-    (each-map (λ e. IsMember x e.1) (λ e. literal_levels e.1 ≤ type_levels x - 1) (λ e of. omega (arith, below e.1 x le of)) entries
+    (each-map (λ e. IsMember x e.1) (λ e. literal_levels e.1 ≤ type_levels x - 1)
+    (λ e of. omega (arith, below e.1 x le of)) entries
     (recursion_from_All (λ e. IsMember x e.1) entries h)) in
     omega (arith, type_levels-positive x)
 map-below n x _ below le h = absurd h
 
-layer-below : (n : ℕ) (l : Literal) (p : TypeLayer) → BelowWithin n → layer_levels p ≤ n + 1 → IsMemberAt p l → depth (out-Literal l) + 1 ≤ layer_levels p
+layer-below : (n : ℕ) (l : Literal) (p : TypeLayer) → BelowWithin n → layer_levels p ≤ n + 1 → IsMemberAt p l
+    → depth (out-Literal l) + 1 ≤ layer_levels p
 layer-below n l (LiteralType-F.Simple s) below le h = omega (arith, simple-below s (out-Literal l) h)
-layer-below n l (LiteralType-F.Collection x) below le h = omega (arith, collection-below n x (out-Literal l) below (omega arith) h)
+layer-below n l (LiteralType-F.Collection x) below le h =
+    omega (arith, collection-below n x (out-Literal l) below (omega arith) h)
 layer-below n l (LiteralType-F.Map x) below le h = omega (arith, map-below n x (out-Literal l) below (omega arith) h)
 layer-below n l (LiteralType-F.Blob form) below le h = omega (arith, blob-below form (out-Literal l) h)
 layer-below n l (LiteralType-F.Enum values) below le h = omega (arith, enum-below values (out-Literal l) h)
-layer-below n l (LiteralType-F.Union ts) below le h = omega (arith, union-below n ts (out-Literal l) below (omega arith) h)
+layer-below n l (LiteralType-F.Union ts) below le h =
+    omega (arith, union-below n ts (out-Literal l) below (omega arith) h)
 
 below : (n : ℕ) → BelowWithin n
 below zero l t le h = absurd (omega (arith, type_levels-positive t))

@@ -8,8 +8,8 @@ use Rattle.fly_types.specs.declared.kinds.LiteralType.TheFolds.{fold-roll-Litera
 use Rattle.fly_types.specs.declared.literals.Literal.{Literal}
 use Rattle.fly_types.specs.Layer.{TypeLayer}
 use Rattle.fly_types.specs.Membership.{IsMember, IsVariant}
-use Rattle.fly_cast.specs.Castable.{only}
-use Rattle.fly_cast.proofs.Lists.{only-has}
+use Rattle.fly_cast.specs.Castable.{sole_element}
+use Rattle.fly_cast.proofs.Lists.{sole_element-has}
 use Rattle.fly_types.specs.Levels.{type_levels, type_levels_by, largest}
 
 abbrev pub layer_levels : TypeLayer → ℕ
@@ -20,7 +20,8 @@ layer_levels _ = 1
 
 pub type_levels-roll : (d : TypeLayer) → type_levels (roll-LiteralType d) ≡ layer_levels d
 type_levels-roll (LiteralType-F.Simple s) = fold-roll-LiteralType ℕ type_levels_by (LiteralType-F.Simple s)
-type_levels-roll (LiteralType-F.Collection element) = fold-roll-LiteralType ℕ type_levels_by (LiteralType-F.Collection element)
+type_levels-roll (LiteralType-F.Collection element) =
+    fold-roll-LiteralType ℕ type_levels_by (LiteralType-F.Collection element)
 type_levels-roll (LiteralType-F.Map value) = fold-roll-LiteralType ℕ type_levels_by (LiteralType-F.Map value)
 type_levels-roll (LiteralType-F.Blob form) = fold-roll-LiteralType ℕ type_levels_by (LiteralType-F.Blob form)
 type_levels-roll (LiteralType-F.Enum values) = fold-roll-LiteralType ℕ type_levels_by (LiteralType-F.Enum values)
@@ -41,14 +42,17 @@ pub type_levels-positive : (t : LiteralType) → 1 ≤ type_levels t
 type_levels-positive t = rw (type_levels-out t) (layer_levels-positive (out-LiteralType t))
 
 -- each variant of a union is below it
-pub variants-below : (n : ℕ) (ts : List LiteralType) → largest (map type_levels ts) ≤ n → Each (λ t. type_levels t ≤ n) ts
+pub variants-below : (n : ℕ) (ts : List LiteralType) → largest (map type_levels ts) ≤ n
+    → Each (λ t. type_levels t ≤ n) ts
 variants-below n [] h = tt
 variants-below n (t ∷ ts) h = (omega arith, variants-below n ts (omega arith))
 
-pub variant-levels : (ts : List LiteralType) (i : ℕ) (t : LiteralType) → i < length ts → t ≡ get_or ts i t → type_levels t ≤ largest (map type_levels ts)
+pub variant-levels : (ts : List LiteralType) (i : ℕ) (t : LiteralType) → i < length ts → t ≡ get_or ts i t
+    → type_levels t ≤ largest (map type_levels ts)
 variant-levels [] i t lt is = absurd (omega arith)
 variant-levels (s ∷ ts) zero t lt is = let e : type_levels t ≡ type_levels s = ap type_levels is in omega arith
-variant-levels (s ∷ ts) (suc i) t lt is = let h : type_levels t ≤ largest (map type_levels ts) = variant-levels ts i t (omega arith) is in omega arith
+variant-levels (s ∷ ts) (suc i) t lt is = let h : type_levels t ≤ largest (map type_levels ts) =
+    variant-levels ts i t (omega arith) is in omega arith
 
 -- a variant of a union, under which a value stands
 pub variant-of : (ts : List LiteralType) (variant : LiteralType) (value : Literal) → IsVariant ts variant value
@@ -60,7 +64,9 @@ variant-of (t ∷ ts) variant value (inl h) =
 variant-of (t ∷ ts) variant value (inr h) = let rest = variant-of ts variant value h in (omega (arith, rest.0), rest.1)
 
 -- the variant that alone passes a test
-pub only-levels : (p : LiteralType → Bool) (ts : List LiteralType) (t : LiteralType) → only (filter p ts) ≡ Some t
+pub sole_element-levels : (p : LiteralType → Bool) (ts : List LiteralType) (t : LiteralType)
+    → sole_element (filter p ts) ≡ Some t
     → type_levels t ≤ largest (map type_levels ts)
-only-levels p ts t e =
-    only-has (λ s. type_levels s ≤ largest (map type_levels ts)) p ts t e (variants-below (largest (map type_levels ts)) ts (omega arith))
+sole_element-levels p ts t e =
+    sole_element-has (λ s. type_levels s ≤ largest (map type_levels ts)) p ts t e
+    (variants-below (largest (map type_levels ts)) ts (omega arith))

@@ -4,7 +4,10 @@ pub mod Depths
 pub mod Fits
 pub mod Levels
 pub mod Lists
+pub mod Members
 pub mod Options
+pub mod Plans
 pub mod Sounds
+pub mod Steps
 pub mod Targets
 pub mod Rows

@@ -1,6 +1,6 @@
 pub mod Castable
-pub mod Convert
-pub mod Decided
-pub mod Fit
+pub mod Conversion
+pub mod Fitting
+pub mod Plan
 pub mod Target
 pub mod Laws

@@ -4,7 +4,7 @@ use Rattle.fly_types.specs.declared.kinds.LiteralType.{LiteralType}
 use Rattle.fly_types.specs.Levels.{max_levels, type_levels}
 use Rattle.fly_types.specs.Sound.{HasSoundTypeParts}
 
--- a sound type, or a collection of one: then a literal of it is within the limit on levels, and so is each variant in it
+-- a sound type, or a collection of one: a literal of it, and each variant in it, is within the limit on levels
 pub record IsTarget (t : LiteralType) : Type 0 where
   pub parts : HasSoundTypeParts t
   pub levels : type_levels t ≤ max_levels + 1

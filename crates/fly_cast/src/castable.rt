@@ -2,7 +2,7 @@ ghost use Rattle.std.specs.Prelude.{◌≡◌, ◌↔◌, IsTrue, filter};
 ghost use Rattle.std.specs.List.{list_all};
 ghost use Rattle.std.specs.Option.{option_copied};
 ghost use Rattle.fly_types.specs.declared.kinds.LiteralType.{out-LiteralType};
-ghost use Rattle.fly_cast.specs.Castable.{is_among, only, enum_casts, form_casts, castable};
+ghost use Rattle.fly_cast.specs.Castable.{is_among, sole_element, is_enum_castable, is_castable_by_form, is_castable};
 
 use fly_types::{List, LiteralType, Simple, Text};
 
@@ -11,7 +11,7 @@ use fly_types::{List, LiteralType, Simple, Text};
 /// The work is at most the product of the sizes of the two types, times their levels.
 #[cycle(castable)]
 pub fn is_castable(a: &LiteralType, b: &LiteralType) -> bool
-    ensures { result ≡ castable a.now b.now }
+    ensures { result ≡ is_castable a.now b.now }
 {
     a.is_same(b) || do_forms_cast(a, b)
 }
@@ -19,7 +19,7 @@ pub fn is_castable(a: &LiteralType, b: &LiteralType) -> bool
 /// Whether the first rule for two types that differ lets the one cast to the other.
 #[cycle(castable)]
 fn do_forms_cast(a: &LiteralType, b: &LiteralType) -> bool
-    ensures { result ≡ form_casts castable a.now b.now (out-LiteralType a.now) (out-LiteralType b.now) }
+    ensures { result ≡ is_castable_by_form is_castable a.now b.now (out-LiteralType a.now) (out-LiteralType b.now) }
 {
     if let LiteralType::Union(variants) = a {
         return do_all_cast(variants.as_slice(), b);
@@ -42,7 +42,7 @@ fn do_forms_cast(a: &LiteralType, b: &LiteralType) -> bool
 
 #[cycle(castable)]
 fn do_all_cast(variants: &[LiteralType], b: &LiteralType) -> bool
-    ensures { result ≡ list_all (λ variant. castable variant b.now) variants.now }
+    ensures { result ≡ list_all (λ variant. is_castable variant b.now) variants.now }
 {
     for variant in variants {
         if !is_castable(variant, b) {
@@ -58,7 +58,7 @@ pub(crate) fn only_taker<'a>(
     a: &LiteralType,
     variants: &'a [LiteralType],
 ) -> Option<&'a LiteralType>
-    ensures { option_copied result ≡ only (filter (castable a.now) variants.now) }
+    ensures { option_copied result ≡ sole_element (filter (is_castable a.now) variants.now) }
 {
     let mut taker = None;
     for variant in variants {
@@ -73,7 +73,7 @@ pub(crate) fn only_taker<'a>(
 }
 
 fn does_enum_cast(a: &LiteralType, b: &LiteralType) -> bool
-    ensures { result ≡ enum_casts (out-LiteralType a.now) (out-LiteralType b.now) }
+    ensures { result ≡ is_enum_castable (out-LiteralType a.now) (out-LiteralType b.now) }
 {
     match a {
         LiteralType::Enum(values) => match b {

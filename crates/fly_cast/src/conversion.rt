@@ -1,15 +1,16 @@
-ghost use Rattle.std.specs.Prelude.{◌≡◌, ◌∷◌, filter, Ok, Some, IfOk, IsTrue};
+ghost use Rattle.std.specs.Prelude.{◌≡◌, Ok, IfOk, IsTrue};
 ghost use Rattle.std.specs.List.{All};
-ghost use Rattle.fly_types.specs.declared.kinds.LiteralType.{out-LiteralType};
 ghost use Rattle.fly_types.specs.declared.literals.Literal.{out-Literal};
 ghost use Rattle.fly_types.specs.Sound.{IsSound};
 ghost use Rattle.fly_types.specs.Membership.{IsMember, IsCollectionOf, IsMapOf};
 ghost use Rattle.fly_cast.specs.Target.{IsTarget};
-ghost use Rattle.fly_cast.specs.Castable.{only, castable};
-ghost use Rattle.fly_cast.specs.Convert.{IsAnswer, form_converts, into_variant, elements_convert, entries_convert, text_converts, entry_ok, each_ok, converted};
+ghost use Rattle.fly_cast.specs.Castable.{is_castable};
+ghost use Rattle.fly_cast.specs.Conversion.{IsAnswer, conversion_of_elements, conversion_of_entries, conversion_of_text, entry_result, each_result, conversion_of};
+ghost use Rattle.fly_cast.specs.Plan.{IsCheck, IsForeign, Suits, conversion_by};
 
-use crate::castable::{is_value, only_taker};
-use fly_types::{Boxed, List, Literal, LiteralType, NoMemory, Simple, Text};
+use crate::castable::is_value;
+use crate::plan::{Step, steps_between};
+use fly_types::{Boxed, List, Literal, LiteralType, NoMemory, Text};
 use std::alloc::{AllocError, AllocFailed, Global};
 
 /// Why a literal was not converted.
@@ -28,90 +29,54 @@ pub fn convert(
     b: &LiteralType,
 ) -> Result<Literal, ConvertFault>
     requires member { IsMember a.now literal }
-    requires castable { IsTrue (castable a.now b.now) }
-    ensures value { IsAnswer (converted literal a.now b.now) result }
+    requires castable { IsTrue (is_castable a.now b.now) }
+    ensures value { IsAnswer (conversion_of literal a.now b.now) result }
     ensures target { IfOk result (IsMember b.now) }
     ensures sound { IsSound literal → IsTarget b.now → IfOk result IsSound }
 {
-    convert_by_rule(alloc, literal, a, b)
+    convert_by_steps(alloc, literal, a, b)
 }
 
 #[cycle(convert)]
-fn convert_by_rule(
+fn convert_by_steps(
     alloc: Global,
     literal: Literal,
     a: &LiteralType,
     b: &LiteralType,
 ) -> Result<Literal, ConvertFault>
     requires { IsMember a.now literal }
-    ensures { IsAnswer (converted literal a.now b.now) result }
+    ensures { IsAnswer (conversion_of literal a.now b.now) result }
 {
-    if a.is_same(b) {
+    let steps = steps_between(alloc, a, b)?;
+    take_steps(alloc, literal, steps.as_slice())
+}
+
+/// The value of a union scalar has steps of its own, since they depend on its variant.
+#[cycle(convert)]
+fn take_steps(alloc: Global, literal: Literal, steps: &[Step]) -> Result<Literal, ConvertFault>
+    requires { Suits steps.now literal }
+    ensures { IsAnswer (conversion_by steps.now literal) result }
+{
+    let [step, inner @ ..] = steps else {
         return Ok(literal);
-    }
-    convert_form(alloc, literal, a, b)
-}
-
-/// By the first rule for two types that differ.
-#[cycle(convert)]
-fn convert_form(
-    alloc: Global,
-    literal: Literal,
-    a: &LiteralType,
-    b: &LiteralType,
-) -> Result<Literal, ConvertFault>
-    requires { IsMember a.now literal }
-    ensures { IsAnswer (form_converts converted literal a.now b.now (out-LiteralType a.now) (out-LiteralType b.now)) result }
-{
-    if let LiteralType::Union(_) = a {
-        return match literal {
-            Literal::Union { value, variant } => convert_by_rule(
-                alloc,
-                value.into_inner(),
-                variant.get(),
-                b,
-            ),
-            other => Ok(other),
-        };
-    }
-    if let LiteralType::Union(variants) = b {
-        return convert_into_union(alloc, literal, a, variants.as_slice());
-    }
-    match a {
-        LiteralType::Collection(from) => match b {
-            LiteralType::Collection(to) => convert_collection(alloc, literal, from.get(), to.get()),
-            _ => Ok(literal),
-        },
-        LiteralType::Map(from) => match b {
-            LiteralType::Map(to) => convert_map(alloc, literal, from.get(), to.get()),
-            _ => Ok(literal),
-        },
-        LiteralType::Simple(Simple::Text) => match b {
-            LiteralType::Enum(values) => check_text(literal, values.as_slice()),
-            _ => Ok(literal),
-        },
-        _ => Ok(literal),
-    }
-}
-
-#[cycle(convert)]
-fn convert_into_union(
-    alloc: Global,
-    literal: Literal,
-    a: &LiteralType,
-    variants: &[LiteralType],
-) -> Result<Literal, ConvertFault>
-    requires { IsMember a.now literal }
-    ensures { IsAnswer (into_variant (converted literal a.now) literal (only (filter (castable a.now) variants.now))) result }
-{
-    match only_taker(a, variants) {
-        Some(variant) => {
-            let value = convert_by_rule(alloc, literal, a, variant)?;
-            let value = Boxed::new(alloc, value)?;
+    };
+    match step {
+        Step::Texts(_) | Step::TextsOfElements | Step::TextsOfValues => {
+            test_texts(alloc, literal, steps)
+        }
+        Step::Elements => convert_collection(alloc, literal, inner),
+        Step::Values => convert_map(alloc, literal, inner),
+        Step::IntoUnion(variant) => {
+            let value = Boxed::new(alloc, take_steps(alloc, literal, inner)?)?;
             let variant = Boxed::new(alloc, variant.copy(alloc)?)?;
             Ok(Literal::Union { value, variant })
         }
-        None => Ok(literal),
+        Step::FromUnion(_, to) => match literal {
+            Literal::Union { value, variant } => {
+                convert_by_steps(alloc, value.into_inner(), variant.get(), to)
+            }
+            other => Ok(other),
+        },
     }
 }
 
@@ -119,15 +84,14 @@ fn convert_into_union(
 fn convert_collection(
     alloc: Global,
     literal: Literal,
-    from: &LiteralType,
-    to: &LiteralType,
+    steps: &[Step],
 ) -> Result<Literal, ConvertFault>
-    requires { IsCollectionOf (IsMember from.now) (out-Literal literal) }
-    ensures { IsAnswer (elements_convert (λ element. converted element from.now to.now) literal (out-Literal literal)) result }
+    requires { IsCollectionOf (Suits steps.now) (out-Literal literal) }
+    ensures { IsAnswer (conversion_of_elements (conversion_by steps.now) literal (out-Literal literal)) result }
 {
     match literal {
         Literal::Collection(elements) => {
-            let converted = convert_elements(alloc, elements.into_vec(), from, to)?;
+            let converted = convert_elements(alloc, elements.into_vec(), steps)?;
             Ok(Literal::Collection(converted))
         }
         other => Ok(other),
@@ -138,32 +102,26 @@ fn convert_collection(
 fn convert_elements(
     alloc: Global,
     elements: Vec<Literal>,
-    from: &LiteralType,
-    to: &LiteralType,
+    steps: &[Step],
 ) -> Result<List<Literal>, ConvertFault>
-    requires { All (IsMember from.now) elements.items }
-    ensures { IsAnswer (each_ok (λ element. converted element from.now to.now) elements.items) result }
+    requires { All (Suits steps.now) elements.items }
+    ensures { IsAnswer (each_result (conversion_by steps.now) elements.items) result }
 {
     let mut converted = Vec::with_capacity(alloc, elements.len())?;
     for element in elements {
-        converted.push(convert_by_rule(alloc, element, from, to)?)?;
+        converted.push(take_steps(alloc, element, steps)?)?;
     }
     Ok(List::from_vec(converted))
 }
 
 #[cycle(convert)]
-fn convert_map(
-    alloc: Global,
-    literal: Literal,
-    from: &LiteralType,
-    to: &LiteralType,
-) -> Result<Literal, ConvertFault>
-    requires { IsMapOf (IsMember from.now) (out-Literal literal) }
-    ensures { IsAnswer (entries_convert (λ value. converted value from.now to.now) literal (out-Literal literal)) result }
+fn convert_map(alloc: Global, literal: Literal, steps: &[Step]) -> Result<Literal, ConvertFault>
+    requires { IsMapOf (Suits steps.now) (out-Literal literal) }
+    ensures { IsAnswer (conversion_of_entries (conversion_by steps.now) literal (out-Literal literal)) result }
 {
     match literal {
         Literal::Map(entries) => {
-            let converted = convert_entries(alloc, entries.into_vec(), from, to)?;
+            let converted = convert_entries(alloc, entries.into_vec(), steps)?;
             Ok(Literal::Map(converted))
         }
         other => Ok(other),
@@ -174,32 +132,92 @@ fn convert_map(
 fn convert_entries(
     alloc: Global,
     entries: Vec<(Text, Literal)>,
-    from: &LiteralType,
-    to: &LiteralType,
+    steps: &[Step],
 ) -> Result<List<(Text, Literal)>, ConvertFault>
-    requires { All (λ entry. IsMember from.now entry.1) entries.items }
-    ensures { IsAnswer (each_ok (entry_ok (λ value. converted value from.now to.now)) entries.items) result }
+    requires { All (λ entry. Suits steps.now entry.1) entries.items }
+    ensures { IsAnswer (each_result (entry_result (conversion_by steps.now)) entries.items) result }
 {
     let mut converted = Vec::with_capacity(alloc, entries.len())?;
     for (name, value) in entries {
-        let value = convert_by_rule(alloc, value, from, to)?;
+        let value = take_steps(alloc, value, steps)?;
         converted.push((name, value))?;
     }
     Ok(List::from_vec(converted))
 }
 
-fn check_text(literal: Literal, values: &[Text]) -> Result<Literal, ConvertFault>
-    ensures { IsAnswer (text_converts values.now literal (out-Literal literal)) result }
+/// The literal as it is, where none of its texts is foreign.
+fn test_texts(alloc: Global, literal: Literal, steps: &[Step]) -> Result<Literal, ConvertFault>
+    requires { IsCheck steps.now }
+    ensures { IsAnswer (conversion_by steps.now literal) result }
+{
+    if let Some(text) = foreign_text(&literal, steps) {
+        let text = text.copy(alloc)?;
+        return Err(ConvertFault::EnumOutside { text });
+    }
+    Ok(literal)
+}
+
+/// The first text, in element order, that is no value of its enum.
+#[cycle(foreign)]
+fn foreign_text<'l>(literal: &'l Literal, steps: &[Step]) -> Option<&'l Text>
+    requires { IsCheck steps.now }
+    ensures { IsForeign (conversion_by steps.now literal.now) literal.now result }
+{
+    let [step, inner @ ..] = steps else {
+        return None;
+    };
+    match step {
+        Step::Texts(values) => text_outside(literal, values),
+        Step::TextsOfElements => match literal {
+            Literal::Collection(elements) => foreign_in_elements(elements.as_slice(), inner),
+            _ => None,
+        },
+        Step::TextsOfValues => match literal {
+            Literal::Map(entries) => foreign_in_values(entries.as_slice(), inner),
+            _ => None,
+        },
+        _ => None,
+    }
+}
+
+#[cycle(foreign)]
+fn foreign_in_elements<'l>(elements: &'l [Literal], steps: &[Step]) -> Option<&'l Text>
+    requires { IsCheck steps.now }
+    ensures { IsForeign (each_result (conversion_by steps.now) elements.now) elements.now result }
+{
+    for element in elements {
+        if let Some(text) = foreign_text(element, steps) {
+            return Some(text);
+        }
+    }
+    None
+}
+
+#[cycle(foreign)]
+fn foreign_in_values<'l>(entries: &'l [(Text, Literal)], steps: &[Step]) -> Option<&'l Text>
+    requires { IsCheck steps.now }
+    ensures { IsForeign (each_result (entry_result (conversion_by steps.now)) entries.now) entries.now result }
+{
+    for (_, value) in entries {
+        if let Some(text) = foreign_text(value, steps) {
+            return Some(text);
+        }
+    }
+    None
+}
+
+fn text_outside<'l>(literal: &'l Literal, values: &[Text]) -> Option<&'l Text>
+    ensures { IsForeign (conversion_of_text values.now literal.now (out-Literal literal.now)) literal.now result }
 {
     match literal {
         Literal::Text(text) => {
-            if is_value(values, &text) {
-                Ok(Literal::Text(text))
+            if is_value(values, text) {
+                None
             } else {
-                Err(ConvertFault::EnumOutside { text })
+                Some(text)
             }
         }
-        other => Ok(other),
+        _ => None,
     }
 }
 

@@ -6,8 +6,8 @@ ghost use Rattle.fly_types.specs.declared.literals.Literal.{out-Literal};
 ghost use Rattle.fly_types.specs.Sound.{IsSound};
 ghost use Rattle.fly_types.specs.Membership.{IsMember};
 ghost use Rattle.fly_cast.specs.Target.{IsTarget};
-ghost use Rattle.fly_cast.specs.Castable.{only};
-ghost use Rattle.fly_cast.specs.Fit.{IsFitted, each_some, entry_some, elements_fit, entries_fit, union_fits, into_only, form_fits, fits};
+ghost use Rattle.fly_cast.specs.Castable.{sole_element};
+ghost use Rattle.fly_cast.specs.Fitting.{IsFitted, each_value, entry_value, fitting_of_elements, fitting_of_entries, fitting_into_union, fitting_into_one, fitting_by_form, fitting_of};
 
 use fly_types::{Boxed, List, Literal, LiteralType, NoMemory, Text, is_member};
 use std::alloc::{AllocError, AllocFailed, Global};
@@ -21,7 +21,7 @@ pub enum FitFault {
 
 /// The literal as one of the type `kind`. It is moved, and no part that stays is copied.
 pub fn fit(alloc: Global, literal: Literal, kind: &LiteralType) -> Result<Literal, FitFault>
-    ensures value { IsFitted (fits literal kind.now) result }
+    ensures value { IsFitted (fitting_of literal kind.now) result }
     ensures target { IfOk result (IsMember kind.now) }
     ensures sound { IsSound literal → IsTarget kind.now → IfOk result IsSound }
 {
@@ -30,7 +30,7 @@ pub fn fit(alloc: Global, literal: Literal, kind: &LiteralType) -> Result<Litera
 
 #[cycle(fit)]
 fn fit_by_rule(alloc: Global, literal: Literal, kind: &LiteralType) -> Result<Literal, FitFault>
-    ensures { IsFitted (fits literal kind.now) result }
+    ensures { IsFitted (fitting_of literal kind.now) result }
 {
     if is_member(&literal, kind) {
         return Ok(literal);
@@ -41,7 +41,7 @@ fn fit_by_rule(alloc: Global, literal: Literal, kind: &LiteralType) -> Result<Li
 /// By the rules for a literal that is not of the type.
 #[cycle(fit)]
 fn fit_form(alloc: Global, literal: Literal, kind: &LiteralType) -> Result<Literal, FitFault>
-    ensures { IsFitted (form_fits fits literal (out-LiteralType kind.now)) result }
+    ensures { IsFitted (fitting_by_form fitting_of literal (out-LiteralType kind.now)) result }
 {
     match kind {
         LiteralType::Collection(element) => fit_collection(alloc, literal, element.get()),
@@ -53,7 +53,7 @@ fn fit_form(alloc: Global, literal: Literal, kind: &LiteralType) -> Result<Liter
 
 #[cycle(fit)]
 fn fit_union(alloc: Global, literal: Literal, variants: &[LiteralType]) -> Result<Literal, FitFault>
-    ensures { IsFitted (union_fits (fits literal) variants.now (out-Literal literal)) result }
+    ensures { IsFitted (fitting_into_union (fitting_of literal) variants.now (out-Literal literal)) result }
 {
     match literal {
         Literal::Union { .. } => Err(FitFault::DoesNotFit),
@@ -67,7 +67,7 @@ fn fit_into_union(
     literal: Literal,
     variants: &[LiteralType],
 ) -> Result<Literal, FitFault>
-    ensures { IsFitted (into_only (fits literal) variants.now) result }
+    ensures { IsFitted (fitting_into_one (fitting_of literal) variants.now) result }
 {
     match only_fitting(&literal, variants) {
         Some(variant) => {
@@ -86,7 +86,7 @@ fn fit_collection(
     literal: Literal,
     element: &LiteralType,
 ) -> Result<Literal, FitFault>
-    ensures { IsFitted (elements_fit (λ e. fits e element.now) (out-Literal literal)) result }
+    ensures { IsFitted (fitting_of_elements (λ e. fitting_of e element.now) (out-Literal literal)) result }
 {
     match literal {
         Literal::Collection(elements) => {
@@ -103,7 +103,7 @@ fn fit_elements(
     elements: Vec<Literal>,
     kind: &LiteralType,
 ) -> Result<List<Literal>, FitFault>
-    ensures { IsFitted (each_some (λ e. fits e kind.now) elements.items) result }
+    ensures { IsFitted (each_value (λ e. fitting_of e kind.now) elements.items) result }
 {
     let mut fitted = Vec::with_capacity(alloc, elements.len())?;
     for element in elements {
@@ -114,7 +114,7 @@ fn fit_elements(
 
 #[cycle(fit)]
 fn fit_map(alloc: Global, literal: Literal, value: &LiteralType) -> Result<Literal, FitFault>
-    ensures { IsFitted (entries_fit (λ e. fits e value.now) (out-Literal literal)) result }
+    ensures { IsFitted (fitting_of_entries (λ e. fitting_of e value.now) (out-Literal literal)) result }
 {
     match literal {
         Literal::Map(entries) => {
@@ -131,7 +131,7 @@ fn fit_entries(
     entries: Vec<(Text, Literal)>,
     kind: &LiteralType,
 ) -> Result<List<(Text, Literal)>, FitFault>
-    ensures { IsFitted (each_some (entry_some (λ e. fits e kind.now)) entries.items) result }
+    ensures { IsFitted (each_value (entry_value (λ e. fitting_of e kind.now)) entries.items) result }
 {
     let mut fitted = Vec::with_capacity(alloc, entries.len())?;
     for (name, value) in entries {
@@ -141,17 +141,17 @@ fn fit_entries(
     Ok(List::from_vec(fitted))
 }
 
-/// Whether the literal fits, with nothing moved.
+/// Whether the literal fits the type: whether `fit` would give one.
 #[cycle(does_fit)]
-fn does_fit(literal: &Literal, kind: &LiteralType) -> bool
-    ensures { result ≡ is_some (fits literal.now kind.now) }
+pub fn does_fit(literal: &Literal, kind: &LiteralType) -> bool
+    ensures { result ≡ is_some (fitting_of literal.now kind.now) }
 {
     is_member(literal, kind) || does_form_fit(literal, kind)
 }
 
 #[cycle(does_fit)]
 fn does_form_fit(literal: &Literal, kind: &LiteralType) -> bool
-    ensures { result ≡ is_some (form_fits fits literal.now (out-LiteralType kind.now)) }
+    ensures { result ≡ is_some (fitting_by_form fitting_of literal.now (out-LiteralType kind.now)) }
 {
     match kind {
         LiteralType::Collection(element) => match literal {
@@ -169,7 +169,7 @@ fn does_form_fit(literal: &Literal, kind: &LiteralType) -> bool
 
 #[cycle(does_fit)]
 fn does_fit_union(literal: &Literal, variants: &[LiteralType]) -> bool
-    ensures { result ≡ is_some (union_fits (fits literal.now) variants.now (out-Literal literal.now)) }
+    ensures { result ≡ is_some (fitting_into_union (fitting_of literal.now) variants.now (out-Literal literal.now)) }
 {
     match literal {
         Literal::Union { .. } => false,
@@ -179,7 +179,7 @@ fn does_fit_union(literal: &Literal, variants: &[LiteralType]) -> bool
 
 #[cycle(does_fit)]
 fn do_elements_fit(elements: &[Literal], kind: &LiteralType) -> bool
-    ensures { result ≡ list_all (λ e. is_some (fits e kind.now)) elements.now }
+    ensures { result ≡ list_all (λ e. is_some (fitting_of e kind.now)) elements.now }
 {
     for element in elements {
         if !does_fit(element, kind) {
@@ -191,7 +191,7 @@ fn do_elements_fit(elements: &[Literal], kind: &LiteralType) -> bool
 
 #[cycle(does_fit)]
 fn do_values_fit(entries: &[(Text, Literal)], kind: &LiteralType) -> bool
-    ensures { result ≡ list_all (λ e. is_some (fits e.1 kind.now)) entries.now }
+    ensures { result ≡ list_all (λ e. is_some (fitting_of e.1 kind.now)) entries.now }
 {
     for (_, value) in entries {
         if !does_fit(value, kind) {
@@ -204,7 +204,7 @@ fn do_values_fit(entries: &[(Text, Literal)], kind: &LiteralType) -> bool
 /// The one variant that the literal fits. None where there are two, or none.
 #[cycle(does_fit)]
 fn only_fitting<'a>(literal: &Literal, variants: &'a [LiteralType]) -> Option<&'a LiteralType>
-    ensures { option_copied result ≡ only (filter (λ variant. is_some (fits literal.now variant)) variants.now) }
+    ensures { option_copied result ≡ sole_element (filter (λ variant. is_some (fitting_of literal.now variant)) variants.now) }
 {
     let mut fitting = None;
     for variant in variants {

@@ -1,4 +1,9 @@
-ghost use Rattle.fly_cast.specs.Laws.{IsReflexive, StaysAtEqualTypes, MembersStay, CastsByRules, ConvertsByRules, FitsByRules, ConversionReaches, ConversionStaysSound, FittingReaches, FittingStaysSound};
+ghost use Rattle.fly_cast.specs.Laws.{DecidesMembership, IsReflexive, StaysAtEqualTypes, MembersStay, CastsByRules, ConvertsByRules, FitsByRules, ConversionReaches, ConversionStaysSound, FittingReaches, FittingStaysSound};
+
+/// The test of membership that fitting asks first is membership. The call does nothing: its contract is the law.
+pub fn membership_is_decided()
+    ensures { DecidesMembership }
+{}
 
 /// A type casts to itself, and a literal stays where the two types are equal. The call does nothing: its contract is the
 /// law.

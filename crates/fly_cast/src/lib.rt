@@ -5,12 +5,14 @@ mod castable;
 mod conversion;
 mod fitting;
 mod laws;
+mod plan;
 #[cfg(test)]
 mod tests;
 
 pub use castable::is_castable;
 pub use conversion::{ConvertFault, convert};
-pub use fitting::{FitFault, fit};
+pub use fitting::{FitFault, does_fit, fit};
 pub use laws::{
-    equal_types_change_nothing, members_fit_as_they_are, rules_decide, wanted_types_are_reached,
+    equal_types_change_nothing, members_fit_as_they_are, membership_is_decided, rules_decide,
+    wanted_types_are_reached,
 };

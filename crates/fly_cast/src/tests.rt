@@ -1,4 +1,5 @@
-//! Values that the tests build, and the tests themselves.
+//! Types and literals for the tests, each written as a word: a letter is made of what the letters before it made, the
+//! last ones first.
 mod casts;
 mod conversions;
 mod fits;
@@ -6,14 +7,49 @@ mod fits;
 use fly_types::{BlobType, Boxed, List, Literal, LiteralType, NoMemory, Simple, Text};
 use std::alloc::Global;
 
-const INTEGER: LiteralType = LiteralType::Simple(Simple::Integer);
-
-const STRING: LiteralType = LiteralType::Simple(Simple::Text);
-
 const NONE: LiteralType = LiteralType::Simple(Simple::None);
 
-fn text(alloc: Global, text: &str) -> Result<Literal, NoMemory> {
-    Ok(Literal::Text(Text::from_str(alloc, text)?))
+/// `[` is a collection and `{` a map of the type before it, `|` a union of the two types before it, `r` an enum of red
+/// and `c` one of red and green. The other letters are the types without parts; `n` is NONE, `i` INTEGER, `s` STRING.
+fn type_of(alloc: Global, word: &str) -> Result<LiteralType, NoMemory> {
+    let mut types = Vec::new(alloc);
+    for letter in word.chars() {
+        let kind = match letter {
+            '[' => LiteralType::Collection(Boxed::new(alloc, last_type(&mut types))?),
+            '{' => LiteralType::Map(Boxed::new(alloc, last_type(&mut types))?),
+            '|' => {
+                let second = last_type(&mut types);
+                union_of(alloc, last_type(&mut types), second)?
+            }
+            'r' => enum_of(alloc, &["red"])?,
+            'c' => enum_of(alloc, &["red", "green"])?,
+            'o' => LiteralType::Blob(BlobType {
+                format: Text::from_str(alloc, "csv")?,
+                multipart: false,
+            }),
+            simple => LiteralType::Simple(simple_of(simple)),
+        };
+        types.push(kind)?;
+    }
+    Ok(last_type(&mut types))
+}
+
+fn last_type(types: &mut Vec<LiteralType>) -> LiteralType {
+    types.pop().unwrap_or(NONE)
+}
+
+fn simple_of(letter: char) -> Simple {
+    match letter {
+        'i' => Simple::Integer,
+        's' => Simple::Text,
+        'b' => Simple::Boolean,
+        'd' => Simple::Datetime,
+        'u' => Simple::Duration,
+        'y' => Simple::Binary,
+        'e' => Simple::Error,
+        't' => Simple::Struct,
+        _ => Simple::None,
+    }
 }
 
 fn enum_of(alloc: Global, values: &[&str]) -> Result<LiteralType, NoMemory> {
@@ -33,25 +69,49 @@ fn union_of(
     Ok(LiteralType::Union(List::from_vec(variants)))
 }
 
-/// `union(STRING, enum("red"))`
-fn text_or_enum(alloc: Global) -> Result<LiteralType, NoMemory> {
-    let red = enum_of(alloc, &["red"])?;
-    union_of(alloc, STRING, red)
+/// `0` is none, `1` and `2` integers, and `R`, `G`, `B` and `K` the texts red, green, blue and black. `.` is an empty
+/// collection, `(` a collection of the literal before it and `,` of the two before it, and `;` a map of the two before
+/// it. `N`, `I`, `S`, `E` and `U` wrap the literal before them as NONE, INTEGER, STRING, `r` and `si|`.
+fn literal_of(alloc: Global, word: &str) -> Result<Literal, NoMemory> {
+    let mut literals = Vec::new(alloc);
+    for letter in word.chars() {
+        let literal = match letter {
+            '1' => Literal::Integer(1),
+            '2' => Literal::Integer(2),
+            'R' => text(alloc, "red")?,
+            'G' => text(alloc, "green")?,
+            'B' => text(alloc, "blue")?,
+            'K' => text(alloc, "black")?,
+            '.' => Literal::Collection(List::from_vec(Vec::new(alloc))),
+            '(' => Literal::Collection(List::from_vec(vec![in alloc;
+                last_literal(&mut literals),
+            ]?)),
+            ',' => {
+                let second = last_literal(&mut literals);
+                collection(alloc, last_literal(&mut literals), second)?
+            }
+            ';' => {
+                let second = last_literal(&mut literals);
+                map(alloc, last_literal(&mut literals), second)?
+            }
+            'N' => wrapped(alloc, last_literal(&mut literals), "n")?,
+            'I' => wrapped(alloc, last_literal(&mut literals), "i")?,
+            'S' => wrapped(alloc, last_literal(&mut literals), "s")?,
+            'E' => wrapped(alloc, last_literal(&mut literals), "r")?,
+            'U' => wrapped(alloc, last_literal(&mut literals), "si|")?,
+            _ => Literal::None,
+        };
+        literals.push(literal)?;
+    }
+    Ok(last_literal(&mut literals))
 }
 
-fn collection_of(alloc: Global, element: LiteralType) -> Result<LiteralType, NoMemory> {
-    Ok(LiteralType::Collection(Boxed::new(alloc, element)?))
+fn last_literal(literals: &mut Vec<Literal>) -> Literal {
+    literals.pop().unwrap_or(Literal::None)
 }
 
-fn map_of(alloc: Global, value: LiteralType) -> Result<LiteralType, NoMemory> {
-    Ok(LiteralType::Map(Boxed::new(alloc, value)?))
-}
-
-fn blob_of(alloc: Global, format: &str) -> Result<LiteralType, NoMemory> {
-    Ok(LiteralType::Blob(BlobType {
-        format: Text::from_str(alloc, format)?,
-        multipart: false,
-    }))
+fn text(alloc: Global, text: &str) -> Result<Literal, NoMemory> {
+    Ok(Literal::Text(Text::from_str(alloc, text)?))
 }
 
 fn collection(alloc: Global, first: Literal, second: Literal) -> Result<Literal, NoMemory> {
@@ -66,9 +126,9 @@ fn map(alloc: Global, first: Literal, second: Literal) -> Result<Literal, NoMemo
     Ok(Literal::Map(List::from_vec(entries)))
 }
 
-fn wrapped(alloc: Global, value: Literal, variant: LiteralType) -> Result<Literal, NoMemory> {
+fn wrapped(alloc: Global, value: Literal, variant: &str) -> Result<Literal, NoMemory> {
     Ok(Literal::Union {
         value: Boxed::new(alloc, value)?,
-        variant: Boxed::new(alloc, variant)?,
+        variant: Boxed::new(alloc, type_of(alloc, variant)?)?,
     })
 }

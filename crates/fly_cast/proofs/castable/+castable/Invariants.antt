@@ -3,7 +3,7 @@ use Rattle.std.specs.Prelude.{filter}
 use Rattle.std.specs.List.{list_all}
 use Rattle.std.specs.Option.{option_copied, option_to_list}
 use Rattle.fly_types.specs.Levels.{type_levels, largest}
-use Rattle.fly_cast.specs.Castable.{castable}
+use Rattle.fly_cast.specs.Castable.{is_castable}
 use Rattle.fly_cast.proofs.castable.+castable.Given as goal
 
 abbrev pub decreases-is_castable : goal.decreases-is_castable
@@ -19,7 +19,9 @@ abbrev pub decreases-only_taker : goal.decreases-only_taker
 decreases-only_taker l = 4 * (type_levels l.a.now + largest (map type_levels l.variants.now)) + 2
 
 abbrev pub invariant-do_all_cast-loop-variant : goal.invariant-do_all_cast-loop-variant
-invariant-do_all_cast-loop-variant l = list_all (λ variant. castable variant l.b) (take l.variant-index l.variants) ≡ true
+invariant-do_all_cast-loop-variant l =
+    list_all (λ variant. is_castable variant l.b) (take l.variant-index l.variants) ≡ true
 
 abbrev pub invariant-only_taker-loop-variant : goal.invariant-only_taker-loop-variant
-invariant-only_taker-loop-variant l = filter (castable l.a) (take l.variant-index l.variants) ≡ option_to_list (option_copied l.taker)
+invariant-only_taker-loop-variant l =
+    filter (is_castable l.a) (take l.variant-index l.variants) ≡ option_to_list (option_copied l.taker)

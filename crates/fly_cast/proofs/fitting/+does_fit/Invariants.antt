@@ -2,7 +2,7 @@ use Rattle.std.proofs.Common.{◌≡◌, ◌+◌, ◌*◌, map, true, take, is_s
 use Rattle.std.specs.List.{list_all}
 use Rattle.std.specs.Option.{option_copied, option_to_list}
 use Rattle.fly_types.specs.Levels.{type_levels, largest}
-use Rattle.fly_cast.specs.Fit.{fits}
+use Rattle.fly_cast.specs.Fitting.{fitting_of}
 use Rattle.fly_cast.proofs.fitting.+does_fit.Given as goal
 
 abbrev pub decreases-does_fit : goal.decreases-does_fit
@@ -24,10 +24,14 @@ abbrev pub decreases-does_fit_union : goal.decreases-does_fit_union
 decreases-does_fit_union l = 4 * largest (map type_levels l.variants.now) + 3
 
 abbrev pub invariant-do_elements_fit-loop-element : goal.invariant-do_elements_fit-loop-element
-invariant-do_elements_fit-loop-element l = list_all (λ e. is_some (fits e l.kind)) (take l.element-index l.elements) ≡ true
+invariant-do_elements_fit-loop-element l =
+    list_all (λ e. is_some (fitting_of e l.kind)) (take l.element-index l.elements) ≡ true
 
 abbrev pub invariant-do_values_fit-loop-value : goal.invariant-do_values_fit-loop-value
-invariant-do_values_fit-loop-value l = list_all (λ e. is_some (fits e.1 l.kind)) (take l.value-index l.entries) ≡ true
+invariant-do_values_fit-loop-value l =
+    list_all (λ e. is_some (fitting_of e.1 l.kind)) (take l.value-index l.entries) ≡ true
 
 abbrev pub invariant-only_fitting-loop-variant : goal.invariant-only_fitting-loop-variant
-invariant-only_fitting-loop-variant l = filter (λ v. is_some (fits l.literal v)) (take l.variant-index l.variants) ≡ option_to_list (option_copied l.fitting)
+invariant-only_fitting-loop-variant l =
+    filter (λ v. is_some (fitting_of l.literal v)) (take l.variant-index l.variants)
+    ≡ option_to_list (option_copied l.fitting)

@@ -1,7 +1,7 @@
 use Rattle.std.proofs.Common.{◌≡◌, ◌++◌, ◌+◌, ◌*◌, map, length, Some}
 use Rattle.std.specs.Vec.Iter.{into_iter_items, into_iter_len}
 use Rattle.fly_types.specs.Levels.{type_levels, largest}
-use Rattle.fly_cast.specs.Fit.{each_some, entry_some, fits}
+use Rattle.fly_cast.specs.Fitting.{each_value, entry_value, fitting_of}
 use Rattle.fly_cast.proofs.fitting.+fit.Given as goal
 
 abbrev pub decreases-fit_by_rule : goal.decreases-fit_by_rule
@@ -32,12 +32,12 @@ abbrev pub invariant-fit_elements-loop-element : goal.invariant-fit_elements-loo
 invariant-fit_elements-loop-element l = record {
   all : l.yielded ++ into_iter_items l.element-iterator ≡ into_iter_items l.initial.element-iterator;
   left : into_iter_len l.element-iterator ≡ length (into_iter_items l.element-iterator);
-  done : each_some (λ e. fits e l.kind) l.yielded ≡ Some l.fitted.items;
+  done : each_value (λ e. fitting_of e l.kind) l.yielded ≡ Some l.fitted.items;
 }
 
 abbrev pub invariant-fit_entries-loop-name : goal.invariant-fit_entries-loop-name
 invariant-fit_entries-loop-name l = record {
   all : l.yielded ++ into_iter_items l.name-iterator ≡ into_iter_items l.initial.name-iterator;
   left : into_iter_len l.name-iterator ≡ length (into_iter_items l.name-iterator);
-  done : each_some (entry_some (λ e. fits e l.kind)) l.yielded ≡ Some l.fitted.items;
+  done : each_value (entry_value (λ e. fitting_of e l.kind)) l.yielded ≡ Some l.fitted.items;
 }
