@@ -1,0 +1,5 @@
+pub mod Faultless
+pub mod FaultLemmas
+pub mod LawLemmas
+pub mod MomentLemmas
+pub mod SizeLemmas

@@ -1,0 +1,5 @@
+pub mod Same
+pub mod SameLaws
+pub mod Faults
+pub mod TruthValue
+pub mod Laws
