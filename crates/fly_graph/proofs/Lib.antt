@@ -2,8 +2,8 @@ pub mod WalkLemmas
 pub mod Members
 pub mod OrderLemmas
 pub mod AdjacencyLemmas
-pub mod ScheduleLemmas
-pub mod Scheduled
+pub mod CountLemmas
+pub mod OrderSteps
 pub mod SearchLists
 pub mod SearchSteps
 pub mod SearchCloses

@@ -9,7 +9,7 @@ use Rattle.fly_graph.specs.declared.components.Mark.TheVariants.{Unseen, OnPath,
 use Rattle.fly_graph.specs.Walks.{IsEdge, Reaches}
 use Rattle.fly_graph.specs.Orders.{EndsBelow}
 use Rattle.fly_graph.specs.Adjacency.{edges_leaving}
-use Rattle.fly_graph.specs.Components.{State, mark_of, followed_of, is_cyclic, degree, target, IsSettled, IsSearch, entered, noted, met, met_at, joined, work_left, is_unseen, KeepsSeen}
+use Rattle.fly_graph.specs.Components.{State, mark_of, followed_of, is_cyclic, degree, target, IsSettled, IsSearch, enter, note, meet, meet_at, join, work_left, is_unseen, KeepsSeen}
 use Rattle.fly_graph.proofs.WalkLemmas.{reaches_by_edge}
 use Rattle.fly_graph.proofs.SearchSteps.{unseen_off, done_off, edge_at, on_path_below, here, elsewhere, still_on, search_enter, search_note, search_follow, to_w, kept_of, search_join}
 use Rattle.fly_graph.proofs.SearchWork.{left_less, unseen_less}
@@ -26,7 +26,7 @@ pub record IsMet (count : ℕ) (edges : List (ℕ × ℕ)) (u pu w : ℕ) (s t :
 
 module _ (count : ℕ) (edges : List (ℕ × ℕ)) (s : State) (old : IsSearch count edges s) (u pu : ℕ) (on : mark_of s u ≡ OnPath pu)
     (last : (bound : ℕ) → Contains s.bounds bound → bound ≤ pu) (w : ℕ) (edge : IsEdge edges u w) (small : w < count) where
-  met_new : mark_of s w ≡ Unseen → IsMet count edges u pu w s (entered w s)
+  met_new : mark_of s w ≡ Unseen → IsMet count edges u pu w s (enter w s)
   met_new new =
       let reach = to_w count edges s old u pu on last w edge in
       let there = here count edges s old w small new reach in
@@ -41,7 +41,7 @@ module _ (count : ℕ) (edges : List (ℕ × ℕ)) (s : State) (old : IsSearch c
               (λ was. let low : bound < length s.path = old.bounds_within bound was in omega arith) (λ e. omega arith) (Contains-push_cases s.bounds (length s.path) bound has),
         );
         loop = λ e. absurd (unseen_off _ pu new (ap (mark_of s) e ∙ on));
-        seen = λ q seen. ⊎_elim (λ e. ap (λ a. is_unseen (mark_of (entered w s) a)) e ∙ ap is_unseen there)
+        seen = λ q seen. ⊎_elim (λ e. ap (λ a. is_unseen (mark_of (enter w s) a)) e ∙ ap is_unseen there)
             (λ apart. ap is_unseen (elsewhere count edges s old w small new reach q apart) ∙ seen) (cases_eq q w);
         work = omega (arith, unseen_less s.marks w (length s.path) (omega (arith, old.marks_len)) new, length_push s.path w, length_push s.pending (length s.path));
       }
@@ -49,24 +49,24 @@ module _ (count : ℕ) (edges : List (ℕ × ℕ)) (s : State) (old : IsSearch c
   noted_at : (b : Bool) → State
   noted_at b = record s { cyclic = cond b (set s.cyclic u true) s.cyclic }
 
-  noted_search : IsSearch count edges (noted u w s)
+  noted_search : IsSearch count edges (note u w s)
   noted_search =
       let P : Bool → Type 0 = λ b. IsSearch count edges (record s { cyclic = cond b (set s.cyclic u true) s.cyclic }) in
       ⊎_elim (λ e. subst P (sym (eq-eqb w u e)) (search_note count edges s old u (subst (Reaches edges u) e (reaches_by_edge edges u w edge))))
       (λ apart. subst P (sym (ne_eqb w u apart)) old)
       (cases_eq w u)
 
-  noted_loop : w ≡ u → is_cyclic (noted u w s) u ≡ true
+  noted_loop : w ≡ u → is_cyclic (note u w s) u ≡ true
   noted_loop e =
       let small_too : u < length s.cyclic = let low : u < count = on_path_below count edges s old u pu on in omega (arith, old.cyclic_len) in
       ap (λ b. get_or (cond b (set s.cyclic u true) s.cyclic) u false) (eq-eqb w u e) ∙ get_or-set_same s.cyclic u true false small_too
 
-  met_on : (place : ℕ) → mark_of s w ≡ OnPath place → IsMet count edges u pu w s (joined place (noted u w s))
+  met_on : (place : ℕ) → mark_of s w ≡ OnPath place → IsMet count edges u pu w s (join place (note u w s))
   met_on place earlier = record {
-    search = search_join count edges (noted u w s) noted_search u pu on last w edge place earlier;
+    search = search_join count edges (note u w s) noted_search u pu on last w edge place earlier;
     on = on;
     followed = refl;
-    settles = inr (place, earlier, λ bound has le. (kept_of count edges (noted u w s) noted_search u pu on last w edge place earlier bound has).1);
+    settles = inr (place, earlier, λ bound has le. (kept_of count edges (note u w s) noted_search u pu on last w edge place earlier bound has).1);
     loop = noted_loop;
     seen = λ q seen. seen;
     work = omega arith;
@@ -83,30 +83,30 @@ module _ (count : ℕ) (edges : List (ℕ × ℕ)) (s : State) (old : IsSearch c
     work = omega arith;
   }
 
-  met_by : (m : Mark) → mark_of s w ≡ m → IsMet count edges u pu w s (met_at u w s m)
+  met_by : (m : Mark) → mark_of s w ≡ m → IsMet count edges u pu w s (meet_at u w s m)
   met_by Unseen e = met_new e
   met_by (OnPath place) e = met_on place e
   met_by Done e = met_done e
 
-  pub is_met : IsMet count edges u pu w s (met u w s)
+  pub is_met : IsMet count edges u pu w s (meet u w s)
   is_met = met_by (mark_of s w) refl
 
 -- the next edge from u is followed
 module _ (count : ℕ) (edges : List (ℕ × ℕ)) (s : State) (old : IsSearch count edges s) (u pu : ℕ) (on : mark_of s u ≡ OnPath pu)
     (last : (bound : ℕ) → Contains s.bounds bound → bound ≤ pu) (k : ℕ) (next : followed_of s u ≡ k) (more : k < degree edges u) (small : target edges u k < count) where
   abbrev pub followed_on : State
-  followed_on = record (met u (target edges u k) s) { followed = set (met u (target edges u k) s).followed u (k + 1) }
+  followed_on = record (meet u (target edges u k) s) { followed = set (meet u (target edges u k) s).followed u (k + 1) }
 
-  now : IsMet count edges u pu (target edges u k) s (met u (target edges u k) s)
+  now : IsMet count edges u pu (target edges u k) s (meet u (target edges u k) s)
   now = is_met count edges s old u pu on last (target edges u k) (edge_at edges u k more) small
 
-  same_next : followed_of (met u (target edges u k) s) u ≡ k
+  same_next : followed_of (meet u (target edges u k) s) u ≡ k
   same_next = ap (λ xs. get_or xs u 0) now.followed ∙ next
 
   pub advance_search : IsSearch count edges followed_on
-  advance_search = search_follow count edges (met u (target edges u k) s) now.search u pu now.on k same_next more now.settles now.loop
+  advance_search = search_follow count edges (meet u (target edges u k) s) now.search u pu now.on k same_next more now.settles now.loop
 
-  pub advance_len : length (met u (target edges u k) s).followed ≡ count
+  pub advance_len : length (meet u (target edges u k) s).followed ≡ count
   advance_len = ap length now.followed ∙ old.followed_len
 
   pub advance_seen : KeepsSeen s followed_on
@@ -115,7 +115,7 @@ module _ (count : ℕ) (edges : List (ℕ × ℕ)) (s : State) (old : IsSearch c
   pub advance_less : work_left edges followed_on < work_left edges s
   advance_less =
       let low : u < count = on_path_below count edges s old u pu on in
-      let less = left_less edges 0 (met u (target edges u k) s).followed u k (omega (arith, now.search.followed_len)) same_next (let same : degree edges (0 + u) ≡ degree edges u = ap (degree edges) (let e : 0 + u ≡ u = omega arith in e) in omega arith) in
+      let less = left_less edges 0 (meet u (target edges u k) s).followed u k (omega (arith, now.search.followed_len)) same_next (let same : degree edges (0 + u) ≡ degree edges u = ap (degree edges) (let e : 0 + u ≡ u = omega arith in e) in omega arith) in
       omega (arith, less, now.work)
 
 -- the number at the last pending place

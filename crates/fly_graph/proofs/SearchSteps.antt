@@ -9,7 +9,7 @@ use Rattle.fly_graph.specs.declared.components.Mark.{Mark}
 use Rattle.fly_graph.specs.declared.components.Mark.TheVariants.{Unseen, OnPath, Done}
 use Rattle.fly_graph.specs.Walks.{IsEdge, Reaches}
 use Rattle.fly_graph.specs.Adjacency.{edges_leaving}
-use Rattle.fly_graph.specs.Components.{State, mark_of, followed_of, is_cyclic, degree, target, AreTogether, IsSettled, IsSearch, entered, joined}
+use Rattle.fly_graph.specs.Components.{State, mark_of, followed_of, is_cyclic, degree, target, AreTogether, IsSettled, IsSearch, enter, join}
 use Rattle.fly_graph.proofs.WalkLemmas.{reaches_by_edge, reaches_trans}
 use Rattle.fly_graph.proofs.Members.{Contains-filter, Contains-filter_from, Contains-nil}
 use Rattle.fly_graph.proofs.SearchLists.{AllPairs_push, AllPairs_take, front_and_last, Contains_front, replicated}
@@ -41,7 +41,7 @@ place_of_edge edges u w edge =
     (kept.0, kept.1, ap (λ (e : ℕ × ℕ). e.1) (get_or_default (edges_leaving edges u) kept.0 (0, 0) (u, w) kept.1 ∙ kept.2))
 
 module _ (count : ℕ) (edges : List (ℕ × ℕ)) where
-  -- before any number is entered
+  -- before any number is on the path
   abbrev pub start : State
   start = record { marks = replicate count Unseen; followed = replicate count 0; cyclic = replicate count false; path = []; bounds = []; pending = [] }
 
@@ -76,10 +76,10 @@ module _ (count : ℕ) (edges : List (ℕ × ℕ)) where
         ⊎_elim (λ small. omega (arith, old.marks_len)) (λ large. absurd (unseen_off _ i (get_or_past s.marks v Unseen large) e)) (cases_lt v (length s.marks))
 
     module _ (v : ℕ) (small : v < count) (new : mark_of s v ≡ Unseen) (reach : (i : ℕ) → i < length s.path → Reaches edges (get_or s.path i 0) v) where
-      pub here : mark_of (entered v s) v ≡ OnPath (length s.path)
+      pub here : mark_of (enter v s) v ≡ OnPath (length s.path)
       here = get_or-set_same s.marks v (OnPath (length s.path)) Unseen (omega (arith, old.marks_len))
 
-      pub elsewhere : (q : ℕ) → (q ≡ v → ⊥) → mark_of (entered v s) q ≡ mark_of s q
+      pub elsewhere : (q : ℕ) → (q ≡ v → ⊥) → mark_of (enter v s) q ≡ mark_of s q
       elsewhere q apart = get_or-set_other s.marks v q (OnPath (length s.path)) Unseen apart
 
       before : (i : ℕ) → i < length s.path → get_or (s.path ++ v ∷ []) i 0 ≡ get_or s.path i 0
@@ -94,27 +94,27 @@ module _ (count : ℕ) (edges : List (ℕ × ℕ)) where
       seen_apart : (q : ℕ) → (mark_of s q ≡ Unseen → ⊥) → q ≡ v → ⊥
       seen_apart q seen e = seen (ap (mark_of s) e ∙ new)
 
-      pub still_on : (q i : ℕ) → mark_of s q ≡ OnPath i → mark_of (entered v s) q ≡ OnPath i
+      pub still_on : (q i : ℕ) → mark_of s q ≡ OnPath i → mark_of (enter v s) q ≡ OnPath i
       still_on q i e = elsewhere q (seen_apart q (λ u. unseen_off _ i u e)) ∙ e
 
-      still_done : (q : ℕ) → mark_of s q ≡ Done → mark_of (entered v s) q ≡ Done
+      still_done : (q : ℕ) → mark_of s q ≡ Done → mark_of (enter v s) q ≡ Done
       still_done q e = elsewhere q (seen_apart q (λ u. unseen_not_done _ u e)) ∙ e
 
       -- what is on the path now is v or was on it
-      was_on : (q i : ℕ) → mark_of (entered v s) q ≡ OnPath i → ((q ≡ v) × (i ≡ length s.path)) ⊎ (mark_of s q ≡ OnPath i)
+      was_on : (q i : ℕ) → mark_of (enter v s) q ≡ OnPath i → ((q ≡ v) × (i ≡ length s.path)) ⊎ (mark_of s q ≡ OnPath i)
       was_on q i e =
-          ⊎_elim (λ same. inl (same, same_place i (length s.path) (sym e ∙ ap (mark_of (entered v s)) same ∙ here)))
+          ⊎_elim (λ same. inl (same, same_place i (length s.path) (sym e ∙ ap (mark_of (enter v s)) same ∙ here)))
           (λ apart. inr (sym (elsewhere q apart) ∙ e)) (cases_eq q v)
 
-      was_done : (q : ℕ) → mark_of (entered v s) q ≡ Done → mark_of s q ≡ Done
+      was_done : (q : ℕ) → mark_of (enter v s) q ≡ Done → mark_of s q ≡ Done
       was_done q e =
-          ⊎_elim (λ same. absurd (done_off _ (length s.path) e (ap (mark_of (entered v s)) same ∙ here))) (λ apart. sym (elsewhere q apart) ∙ e) (cases_eq q v)
+          ⊎_elim (λ same. absurd (done_off _ (length s.path) e (ap (mark_of (enter v s)) same ∙ here))) (λ apart. sym (elsewhere q apart) ∙ e) (cases_eq q v)
 
-      was_unseen : (q : ℕ) → mark_of (entered v s) q ≡ Unseen → mark_of s q ≡ Unseen
+      was_unseen : (q : ℕ) → mark_of (enter v s) q ≡ Unseen → mark_of s q ≡ Unseen
       was_unseen q e =
-          ⊎_elim (λ same. absurd (unseen_off _ (length s.path) e (ap (mark_of (entered v s)) same ∙ here))) (λ apart. sym (elsewhere q apart) ∙ e) (cases_eq q v)
+          ⊎_elim (λ same. absurd (unseen_off _ (length s.path) e (ap (mark_of (enter v s)) same ∙ here))) (λ apart. sym (elsewhere q apart) ∙ e) (cases_eq q v)
 
-      settled_still : (w i : ℕ) → i < length s.path → IsSettled s w i → IsSettled (entered v s) w i
+      settled_still : (w i : ℕ) → i < length s.path → IsSettled s w i → IsSettled (enter v s) w i
       settled_still w i within =
           ⊎_elim (λ done. inl (still_done w done))
           (λ on. inr (
@@ -125,7 +125,7 @@ module _ (count : ℕ) (edges : List (ℕ × ℕ)) where
           ))
 
       -- v goes to the end of the path
-      pub search_enter : IsSearch count edges (entered v s)
+      pub search_enter : IsSearch count edges (enter v s)
       search_enter = record {
         marks_len = length-set s.marks v (OnPath (length s.path)) ∙ old.marks_len;
         followed_len = old.followed_len;
@@ -135,9 +135,9 @@ module _ (count : ℕ) (edges : List (ℕ × ℕ)) where
             (λ on. let was = old.place q i on in let low : i < length s.path = was.0 in (omega (arith, length_push s.path v), before i low ∙ was.1))
             (was_on q i e);
         marked = λ i within. ⊎_elim
-            (λ e. ap (λ k. mark_of (entered v s) (get_or (s.path ++ v ∷ []) k 0)) e ∙ ap (mark_of (entered v s)) at_end ∙ here ∙ ap OnPath (sym e))
+            (λ e. ap (λ k. mark_of (enter v s) (get_or (s.path ++ v ∷ []) k 0)) e ∙ ap (mark_of (enter v s)) at_end ∙ here ∙ ap OnPath (sym e))
             (λ apart. let low : i < length s.path = omega (arith, length_push s.path v) in
-            ap (mark_of (entered v s)) (before i low) ∙ still_on (get_or s.path i 0) i (old.marked i low))
+            ap (mark_of (enter v s)) (before i low) ∙ still_on (get_or s.path i 0) i (old.marked i low))
             (cases_eq i (length s.path));
         forward = λ i j order within.
             let low : i < length s.path = omega (arith, length_push s.path v) in
@@ -325,18 +325,18 @@ module _ (count : ℕ) (edges : List (ℕ × ℕ)) where
           (λ after. reaches_trans edges _ u w (subst (Reaches edges (get_or s.path j 0)) u_at (old.back pu j after within (λ bound has above. let low : bound ≤ pu = last bound has in absurd (omega arith)))) step))
           (cases_order j pu)
 
-      -- the segments are joined from that of w on
+      -- the segments become one from that of w on
       module _ (place : ℕ) (earlier : mark_of s w ≡ OnPath place) where
-        pub kept_of : (bound : ℕ) → Contains (joined place s).bounds bound → Contains s.bounds bound × (bound ≤ place)
+        pub kept_of : (bound : ℕ) → Contains (join place s).bounds bound → Contains s.bounds bound × (bound ≤ place)
         kept_of bound has = let kept = Contains-filter (λ b. leb b place) s.bounds bound has in (kept.0, leb-true bound place kept.1)
 
-        kept_from : (bound : ℕ) → Contains s.bounds bound → bound ≤ place → Contains (joined place s).bounds bound
+        kept_from : (bound : ℕ) → Contains s.bounds bound → bound ≤ place → Contains (join place s).bounds bound
         kept_from bound has low = Contains-filter_from (λ b. leb b place) s.bounds bound has (le-leb bound place low)
 
         w_at : get_or s.path place 0 ≡ w
         w_at = (old.place w place earlier).1
 
-        back_joined : (i j : ℕ) → i < j → j < length s.path → AreTogether (joined place s).bounds i j → Reaches edges (get_or s.path j 0) (get_or s.path i 0)
+        back_joined : (i j : ℕ) → i < j → j < length s.path → AreTogether (join place s).bounds i j → Reaches edges (get_or s.path j 0) (get_or s.path i 0)
         back_joined i j order within together =
             ⊎_elim
             (λ past.
@@ -349,7 +349,7 @@ module _ (count : ℕ) (edges : List (ℕ × ℕ)) where
             (λ up_to. old.back i j order within (λ bound has above. ⊎_elim (λ up. omega arith) (λ low. together bound (kept_from bound has low) above) (cases_lt place bound)))
             (cases_lt place j)
 
-        pub search_join : IsSearch count edges (joined place s)
+        pub search_join : IsSearch count edges (join place s)
         search_join = record {
           marks_len = old.marks_len;
           followed_len = old.followed_len;

@@ -6,7 +6,7 @@ use Rattle.std.proofs.lemmas.List.Sums.{sum_by-set, sum_by-cons}
 use Rattle.fly_graph.specs.declared.components.Mark.{Mark}
 use Rattle.fly_graph.specs.declared.components.Mark.TheVariants.{Unseen, OnPath, Done}
 use Rattle.fly_graph.proofs.Members.{Contains_from_any}
-use Rattle.fly_graph.proofs.ScheduleLemmas.{one_if}
+use Rattle.fly_graph.proofs.CountLemmas.{one_if}
 use Rattle.fly_graph.specs.Components.{State, mark_of, degree, IsSearch, edges_left, work_left, is_unseen, Closes, KeepsSeen}
 
 -- one more edge followed leaves one less
@@ -20,7 +20,7 @@ left_less edges v (x ∷ xs) (suc i) k within at more =
     let rest = left_less edges (suc v) xs i k (omega arith) at (omega arith) in
     omega (arith, rest)
 
--- a number that is entered is no longer unseen
+-- a number that goes on the path is no longer unseen
 pub unseen_less : (marks : List Mark) (v n : ℕ) → v < length marks → get_or marks v Unseen ≡ Unseen → count_by is_unseen (set marks v (OnPath n)) + 1 ≡ count_by is_unseen marks
 unseen_less marks v n within new =
     let was : one_if (is_unseen (get_or marks v Unseen)) ≡ 1 = ap (λ m. one_if (is_unseen m)) new in

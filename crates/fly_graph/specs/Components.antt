@@ -78,8 +78,8 @@ pub record IsSearch (count : ℕ) (edges : List (ℕ × ℕ)) (s : State) : Type
   pub complete : (v : ℕ) → mark_of s v ≡ Done → Reaches edges v v → is_cyclic s v ≡ true
 
 -- v goes to the end of the path, as a segment of its own
-abbrev pub entered : ℕ → State → State
-entered v s = record s {
+abbrev pub enter : ℕ → State → State
+enter v s = record s {
   marks = slice_set s.marks v (OnPath (length s.path));
   path = s.path ++ v ∷ [];
   bounds = s.bounds ++ length s.path ∷ [];
@@ -87,8 +87,8 @@ entered v s = record s {
 }
 
 -- the segments from that of a place on become one
-abbrev pub joined : ℕ → State → State
-joined place s = record s { bounds = filter (λ bound. nat_le bound place) s.bounds }
+abbrev pub join : ℕ → State → State
+join place s = record s { bounds = filter (λ bound. nat_le bound place) s.bounds }
 
 -- the last segment, from its first place on, leaves the path
 pub record Closes (bound : ℕ) (old new : State) : Type 0 where
@@ -110,18 +110,18 @@ is_unseen Done = false
 abbrev pub KeepsSeen : State → State → Type 0
 KeepsSeen old new = (v : ℕ) → is_unseen (mark_of old v) ≡ false → is_unseen (mark_of new v) ≡ false
 
--- an edge from v to itself is noted
-abbrev pub noted : ℕ → ℕ → State → State
-noted v w s = record s { cyclic = (if nat_eq w v then slice_set s.cyclic v true else s.cyclic) }
+-- an edge from v to itself sets the flag of v
+abbrev pub note : ℕ → ℕ → State → State
+note v w s = record s { cyclic = (if nat_eq w v then slice_set s.cyclic v true else s.cyclic) }
 
 -- an edge from v leads to w, of which a mark is known
-abbrev pub met_at : ℕ → ℕ → State → Mark → State
-met_at v w s Unseen = entered w s
-met_at v w s (OnPath place) = joined place (noted v w s)
-met_at v w s Done = s
+abbrev pub meet_at : ℕ → ℕ → State → Mark → State
+meet_at v w s Unseen = enter w s
+meet_at v w s (OnPath place) = join place (note v w s)
+meet_at v w s Done = s
 
-abbrev pub met : ℕ → ℕ → State → State
-met v w s = met_at v w s (mark_of s w)
+abbrev pub meet : ℕ → ℕ → State → State
+meet v w s = meet_at v w s (mark_of s w)
 
 -- how many edges are left to follow, where the list begins at v
 abbrev pub edges_left : List (ℕ × ℕ) → ℕ → List ℕ → ℕ

@@ -1,8 +1,8 @@
 -- Why a graph has no order.
 use Rattle.std.specs.Prelude.{ℕ, ◌<◌, ◌↔◌, List, length, Contains}
 use Rattle.std.specs.List.Sorted.{IsStrictlyIncreasing}
-use Rattle.fly_graph.specs.declared.GraphFault.{GraphFault}
-use Rattle.fly_graph.specs.declared.GraphFault.TheVariants.{Cyclic, NoMemory}
+use Rattle.fly_graph.specs.declared.faults.GraphFault.{GraphFault}
+use Rattle.fly_graph.specs.declared.faults.GraphFault.TheVariants.{Cyclic, NoMemory}
 use Rattle.fly_graph.specs.Walks.{Reaches}
 
 -- the numbers that reach themselves, rising, and there is one

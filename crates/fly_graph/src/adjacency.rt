@@ -16,12 +16,15 @@ pub struct Adjacency {
 }
 
 impl Adjacency {
-    pub fn build(alloc: Global, count: u32, edges: &[(u32, u32)]) -> Result<Adjacency, AllocError>
-        requires { EndsBelow count edges.now }
+    pub fn build(
+        alloc: Global,
+        count: u32,
+        mut edges: Vec<(u32, u32)>,
+    ) -> Result<Adjacency, AllocError>
+        requires { EndsBelow count edges.items }
         ensures count { IfOk result (λ adjacency. adjacency.count ≡ count) }
-        ensures edges { IfOk result (λ adjacency. IsPermutation edges.now adjacency.edges.items) }
+        ensures edges { IfOk result (λ adjacency. IsPermutation edges.items adjacency.edges.items) }
     {
-        let mut edges = Vec::from_slice(alloc, edges)?;
         edges.sort_unstable_by_key(|edge| edge.0);
         let starts = starts_of(alloc, count, edges.as_slice())?;
         Ok(Adjacency {

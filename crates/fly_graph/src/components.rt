@@ -32,9 +32,9 @@ pub struct Search {
 
 impl Search {
     ghost use Rattle.std.specs.Prelude.{◌-◌, ◌≤◌, All, Contains, slice_index};
-    ghost use Rattle.fly_graph.specs.Components.{state_of, IsSearch, entered, noted, met, joined, Closes, KeepsSeen, is_unseen, mark_of, work_left};
+    ghost use Rattle.fly_graph.specs.Components.{state_of, IsSearch, enter, note, meet, join, Closes, KeepsSeen, is_unseen, mark_of, work_left};
 
-    fn new(alloc: Global, count: u32) -> Result<Search, AllocError>
+    pub fn new(alloc: Global, count: u32) -> Result<Search, AllocError>
         ensures { IfOk result (λ search. state_of search ≡ record {
           marks = replicate count Mark.Unseen;
           followed = replicate count 0;
@@ -58,7 +58,7 @@ impl Search {
     /// Puts an unseen number at the end of the path, as a segment of its own.
     fn enter(&mut self, v: u32) -> Result<(), AllocError>
         requires { v < length self.old.marks.items }
-        ensures { OnOk result (state_of self.new ≡ entered v (state_of self.old)) }
+        ensures { OnOk result (state_of self.new ≡ enter v (state_of self.old)) }
     {
         let place = self.path.len();
         self.path.push(v)?;
@@ -69,7 +69,7 @@ impl Search {
     }
 
     /// Sees to it that a number is done.
-    fn visit(&mut self, adjacency: &Adjacency, v: u32) -> Result<(), AllocError>
+    pub fn visit(&mut self, adjacency: &Adjacency, v: u32) -> Result<(), AllocError>
         requires v { v < adjacency.now.count }
         requires search { IsSearch adjacency.now.count adjacency.now.edges.items (state_of self.old) }
         requires empty { self.old.path.items ≡ [] }
@@ -129,7 +129,7 @@ impl Search {
         requires v { v < length self.old.cyclic.items }
         requires target { target < length self.old.marks.items }
         requires rising { AllPairs (λ x y. x < y) self.old.bounds.items }
-        ensures { OnOk result (state_of self.new ≡ met v target (state_of self.old)) }
+        ensures { OnOk result (state_of self.new ≡ meet v target (state_of self.old)) }
     {
         match self.marks[target as usize] {
             Mark::Unseen => self.enter(target),
@@ -145,7 +145,7 @@ impl Search {
     /// Notes an edge from a number to itself.
     fn note(&mut self, v: u32, target: u32)
         requires { v < length self.old.cyclic.items }
-        ensures { state_of self.new ≡ noted v target (state_of self.old) }
+        ensures { state_of self.new ≡ note v target (state_of self.old) }
     {
         if target == v {
             self.cyclic[v as usize] = true;
@@ -155,7 +155,7 @@ impl Search {
     /// Makes one segment of all from that of a place on.
     fn join(&mut self, place: usize)
         requires { AllPairs (λ x y. x < y) self.old.bounds.items }
-        ensures { state_of self.new ≡ joined place (state_of self.old) }
+        ensures { state_of self.new ≡ join place (state_of self.old) }
     {
         let kept = self.bounds.partition_point(|bound| *bound <= place);
         self.bounds.truncate(kept);

@@ -1,43 +1,31 @@
 //! Directed graphs: the order that takes the least free number each time, or the numbers on cycles.
 #![tactic(auto)]
 
-ghost use Rattle.std.specs.Prelude.{◌≡◌, ℕ, ◌<◌, ◌↔◌, List as Listed, IsTrue, IfOk, IfErr, OnOk};
+ghost use Rattle.std.specs.Prelude.{◌≡◌, ◌<◌, ◌↔◌, IsTrue, IfOk, IfErr, OnOk};
 ghost use Rattle.fly_graph.specs.Walks.{Reaches};
-ghost use Rattle.fly_graph.specs.Orders.{Digraph, graph_of, EndsBelow, HasEachOnce, EdgesGoForward, TakesLeastFree, IsAcyclic, IsOrder, IsLeastOrder};
+ghost use Rattle.fly_graph.specs.Orders.{graph_of, EndsBelow, HasEachOnce, EdgesGoForward, TakesLeastFree, IsAcyclic};
 
 mod adjacency;
 mod components;
-mod schedule;
+mod faults;
+mod orders;
 #[cfg(test)]
 mod tests;
+mod walks;
 
 use crate::adjacency::Adjacency;
+pub use faults::GraphFault;
 use fly_types::{List, NoMemory};
-use std::alloc::{AllocError, Global};
+pub use orders::{least_order, order_exists};
+use std::alloc::Global;
 use std::marker::Model;
-
-/// Why a graph has no order.
-#[derive(Debug, Drop)]
-pub enum GraphFault {
-    /// The numbers that reach themselves, rising.
-    Cyclic(List<u32>),
-    NoMemory,
-}
-
-impl From<AllocError> for GraphFault {
-    ghost use Rattle.fly_graph.specs.declared.GraphFault.TheVariants.{NoMemory as OutOfMemory};
-
-    ghost from_gives = { λ _ fault. fault ≡ OutOfMemory };
-
-    fn from(_: AllocError) -> GraphFault {
-        GraphFault::NoMemory
-    }
-}
+use std::snapshot::Snapshot;
 
 /// A directed graph, seen as how many numbers it has and the list of its edges.
-#[derive(Debug, Drop)]
+#[derive(Drop)]
 pub struct Graph {
-    edges: List<(u32, u32)>,
+    /// The edges in the order in which they were given, for contracts alone.
+    given: Snapshot<List<(u32, u32)>>,
     adjacency: Adjacency,
 }
 
@@ -47,9 +35,9 @@ impl Model for Graph {
 
     ghost Value = { Digraph };
 
-    ghost view = { λ g. graph_of g.adjacency.count g.edges };
+    ghost view = { λ g. graph_of g.adjacency.count g.given.value };
 
-    ghost invariant = { λ g. IsPermutation g.edges g.adjacency.edges.items };
+    ghost invariant = { λ g. IsPermutation g.given.value g.adjacency.edges.items };
 }
 
 impl Graph {
@@ -61,8 +49,9 @@ impl Graph {
         requires { EndsBelow count edges }
         ensures { IfOk result (λ graph. graph ≡ graph_of count edges) }
     {
-        let adjacency = Adjacency::build(alloc, count, edges.as_slice())?;
-        Ok(Graph { edges, adjacency })
+        let given = Snapshot::of(&edges);
+        let adjacency = Adjacency::build(alloc, count, edges.into_vec())?;
+        Ok(Graph { given, adjacency })
     }
 
     /// Whether a walk of one or more edges leads from `v` back to it.
@@ -70,8 +59,7 @@ impl Graph {
         requires { v < self.now.count }
         ensures { IfOk result (λ answer. IsTrue answer ↔ Reaches self.now.edges v v) }
     {
-        let cyclic = components::cyclic_flags(alloc, &self.adjacency)?;
-        Ok(cyclic[v as usize])
+        Ok(walks::leads_back(alloc, &self.adjacency, v)?)
     }
 
     /// The numbers in an order in which each edge goes forward, or those that reach themselves.
@@ -82,7 +70,7 @@ impl Graph {
         ensures acyclic { OnOk result (IsAcyclic self.now.edges) }
         ensures cyclic { IfErr result (HasCause self.now.edges) }
     {
-        let order = schedule::least_free_first(alloc, &self.adjacency)?;
+        let order = orders::least_free_first(alloc, &self.adjacency)?;
         if order.len() == self.adjacency.count as usize {
             return Ok(List::from_vec(order));
         }
@@ -90,17 +78,3 @@ impl Graph {
         Err(GraphFault::Cyclic(List::from_vec(cyclic)))
     }
 }
-
-/// A graph has an order just where no number reaches itself.
-pub fn order_exists()
-    ensures { (graph : Digraph) → EndsBelow graph.count graph.edges
-        → ((order : Listed ℕ) × IsOrder graph order) ↔ IsAcyclic graph.edges }
-{}
-
-/// One order takes the least free number each time, and no other does.
-pub fn least_order()
-    ensures exists { (graph : Digraph) → EndsBelow graph.count graph.edges → IsAcyclic graph.edges
-        → (order : Listed ℕ) × IsLeastOrder graph order }
-    ensures only { (graph : Digraph) (order other : Listed ℕ)
-        → IsLeastOrder graph order → IsLeastOrder graph other → order ≡ other }
-{}

@@ -1,6 +1,6 @@
 use Rattle.std.proofs.Common.{◌≡◌, ℕ, ◌+◌, ◌-◌, ◌<◌, List, length, get_or, set, take, sym, ◌∙◌, ap, subst, arith}
 use Rattle.fly_graph.specs.Adjacency.{edges_leaving}
-use Rattle.fly_graph.specs.Components.{State, state_of, IsSearch, work_left, met, target}
+use Rattle.fly_graph.specs.Components.{State, state_of, IsSearch, work_left, meet, target}
 use Rattle.fly_graph.proofs.SearchSteps.{search_retire}
 use Rattle.fly_graph.proofs.SearchAdvance.{top_within, top_marked, top_below, target_below, advance_search, advance_less, advance_len, followed_is, followed_within, more_left, none_left}
 use Rattle.fly_graph.proofs.components.Search.advance.Goals as goal
@@ -58,9 +58,9 @@ overflow_add-followed c =
     let within = followed_within _ _ (state_of c.args.self.now) c.requires.search c.index-v.result.now low c.index-followed.result.now c.index-followed.ensures c.leaving-leaving.result.now c.leaving-leaving.ensures c.if-followed-leaving.false in
     omega (arith, within, c.leaving-leaving.type_inv.0)
 
--- the state after the edge was met
-met_state : (s t : State) (v k : ℕ) (edges leaving : List (ℕ × ℕ)) → leaving ≡ edges_leaving edges v → t ≡ met v (get_or leaving k (0, 0)).1 s → t ≡ met v (target edges v k) s
-met_state s t v k edges leaving are e = e ∙ ap (λ (xs : List (ℕ × ℕ)). met v (get_or xs k (0, 0)).1 s) are
+-- the state once the edge is met
+met_state : (s t : State) (v k : ℕ) (edges leaving : List (ℕ × ℕ)) → leaving ≡ edges_leaving edges v → t ≡ meet v (get_or leaving k (0, 0)).1 s → t ≡ meet v (target edges v k) s
+met_state s t v k edges leaving are e = e ∙ ap (λ (xs : List (ℕ × ℕ)). meet v (get_or xs k (0, 0)).1 s) are
 
 pub index_mut-requires : goal.index_mut-requires
 index_mut-requires c =

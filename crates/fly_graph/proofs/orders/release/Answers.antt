@@ -1,11 +1,11 @@
 use Rattle.std.proofs.Common.{◌≡◌, ℕ, ◌-◌, ◌<◌, ◌≤◌, List, length, get_or, ◌∙◌, ap, arith}
 use Rattle.std.proofs.lemmas.List.{length-set}
 use Rattle.std.proofs.lemmas.List.Elements.{All-get_or}
-use Rattle.fly_graph.proofs.ScheduleLemmas.{edges_to, take_one, counts_one, free_last, free_none, apart_at}
+use Rattle.fly_graph.proofs.CountLemmas.{edges_to, take_one, counts_one, free_last, free_none, apart_at}
 use Rattle.std.specs.BTreeSet.{contains, BTreeSet}
 use Rattle.std.specs.Ordering.{nat_cmp}
-use Rattle.fly_graph.proofs.schedule.release.Goals.{then-missing-target-eq0+in_ok-insert, else-missing-target-eq0}
-use Rattle.fly_graph.proofs.schedule.release.Goals as goal
+use Rattle.fly_graph.proofs.orders.release.Goals.{then-missing-target-eq0+in_ok-insert, else-missing-target-eq0}
+use Rattle.fly_graph.proofs.orders.release.Goals as goal
 
 pub overflow_sub-missing : goal.overflow_sub-missing
 overflow_sub-missing c =

@@ -1,4 +1,4 @@
--- What the scheduling loop keeps: how many edges each number waits for, and which numbers are free.
+-- What the loop over free numbers keeps: how many edges each number waits for, and which numbers are free.
 use Rattle.std.proofs.Common.{◌≡◌, ◌↔◌, ℕ, ◌+◌, ◌<◌, ◌≤◌, Bool, true, false, cond, not, ◌&&◌, ◌||◌, List, [], ◌∷◌, ◌++◌, length, get_or, eqb, ltb, count_by, ⊎_elim, refl, sym, ◌∙◌, ap, subst, arith}
 use Rattle.std.specs.List.{Contains, list_any}
 use Rattle.std.specs.Ordering.{nat_cmp}
@@ -13,7 +13,7 @@ use Rattle.fly_graph.specs.Orders.{Digraph, EndsBelow, IsFree, IsLeastFree, Take
 use Rattle.fly_graph.specs.Adjacency.{edges_leaving}
 use Rattle.fly_graph.proofs.Members.{any_from_Contains, Contains_from_any, not_any, Contains-nil, Contains-cons_cases, Contains-filter, Contains-filter_from}
 use Rattle.fly_graph.proofs.OrderLemmas.{takes_push, taken_length, begins_before}
-use Rattle.fly_graph.proofs.ScheduleLemmas.{one_if, edges_to, is_freed}
+use Rattle.fly_graph.proofs.CountLemmas.{one_if, edges_to, is_freed}
 
 -- the edge leads to v, from outside done
 abbrev pub holds_back : List ℕ → ℕ → (ℕ × ℕ) → Bool

@@ -2,8 +2,8 @@ use Rattle.std.proofs.Common.{◌≡◌, ℕ, ◌+◌, ◌<◌, List, length, ge
 use Rattle.std.proofs.lemmas.List.{get_or_read, length-set}
 use Rattle.std.proofs.lemmas.List.Elements.{All-get_or}
 use Rattle.std.proofs.lemmas.List.Sums.{count_by-le-length}
-use Rattle.fly_graph.proofs.ScheduleLemmas.{count_one}
-use Rattle.fly_graph.proofs.schedule.incoming.Goals as goal
+use Rattle.fly_graph.proofs.CountLemmas.{count_one}
+use Rattle.fly_graph.proofs.orders.incoming.Goals as goal
 
 pub overflow_add-index_mut : goal.overflow_add-index_mut
 overflow_add-index_mut c =

@@ -1,5 +1,5 @@
 use Rattle.fly_graph.proofs.OrderLemmas.{order_from_acyclic, taken_forward, acyclic_from_any_order}
-use Rattle.fly_graph.proofs.order_exists.Goals as goal
+use Rattle.fly_graph.proofs.orders.order_exists.Goals as goal
 
 pub returns : goal.returns
 returns c = λ graph ends. (

@@ -6,12 +6,12 @@ use Rattle.std.proofs.lemmas.List.{with_items_is, length_push, nil_from_length}
 use Rattle.std.proofs.lemmas.List.Elements.{All-filter}
 use Rattle.std.proofs.lemmas.Map.Keys.{le_from_not_gt}
 use Rattle.fly_graph.specs.Orders.{Digraph, graph_of}
-use Rattle.fly_graph.proofs.ScheduleLemmas.{apart_at, edges_to, is_freed}
+use Rattle.fly_graph.proofs.CountLemmas.{apart_at, edges_to, is_freed}
 use Rattle.fly_graph.specs.Adjacency.{edges_leaving}
 use Rattle.std.specs.BTreeMap.{is_at}
 use Rattle.std.proofs.lemmas.Bool.{false≢true, cases_lt}
-use Rattle.fly_graph.proofs.Scheduled.{IsScheduled, scheduled_start, scheduled_next, one_left, waiting_less}
-use Rattle.fly_graph.proofs.schedule.least_free_first.Goals as goal
+use Rattle.fly_graph.proofs.OrderSteps.{IsScheduled, scheduled_start, scheduled_next, one_left, waiting_less}
+use Rattle.fly_graph.proofs.orders.least_free_first.Goals as goal
 
 pub loop-v-init : goal.loop-v-init
 loop-v-init c =

@@ -1,11 +1,25 @@
-ghost use Rattle.std.specs.Prelude.{◌≡◌, ℕ, ◌+◌, ◌<◌, ◌≤◌, ◌==◌, ◌&&◌, ◌||◌, nat_lt, length, slice_index, count_by, All, IfOk, OnOk};
+ghost use Rattle.std.specs.Prelude.{◌≡◌, ℕ, ◌+◌, ◌<◌, ◌≤◌, ◌==◌, ◌&&◌, ◌||◌, ◌↔◌, nat_lt, List as Listed, length, slice_index, count_by, All, IfOk, OnOk};
 ghost use Rattle.std.specs.Ordering.{nat_cmp};
 ghost use Rattle.std.specs.BTreeSet.{contains};
-ghost use Rattle.fly_graph.specs.Orders.{graph_of, IsFree, TakesLeastFree};
+ghost use Rattle.fly_graph.specs.Orders.{Digraph, graph_of, EndsBelow, IsFree, TakesLeastFree, IsAcyclic, IsOrder, IsLeastOrder};
 
 use crate::adjacency::Adjacency;
 use std::alloc::{AllocError, Global};
 use std::collections::BTreeSet;
+
+/// A graph has an order just where no number reaches itself.
+pub fn order_exists()
+    ensures { (graph : Digraph) → EndsBelow graph.count graph.edges
+        → ((order : Listed ℕ) × IsOrder graph order) ↔ IsAcyclic graph.edges }
+{}
+
+/// One order takes the least free number each time, and no other does.
+pub fn least_order()
+    ensures exists { (graph : Digraph) → EndsBelow graph.count graph.edges → IsAcyclic graph.edges
+        → (order : Listed ℕ) × IsLeastOrder graph order }
+    ensures only { (graph : Digraph) (order other : Listed ℕ)
+        → IsLeastOrder graph order → IsLeastOrder graph other → order ≡ other }
+{}
 
 /// Takes the least free number again and again, until none is free.
 pub fn least_free_first(alloc: Global, adjacency: &Adjacency) -> Result<Vec<u32>, AllocError>

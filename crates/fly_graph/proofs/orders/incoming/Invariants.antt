@@ -1,5 +1,5 @@
 use Rattle.std.proofs.Common.{◌≡◌, ℕ, ◌<◌, ◌==◌, length, slice_index, take, count_by}
-use Rattle.fly_graph.proofs.schedule.incoming.Given as goal
+use Rattle.fly_graph.proofs.orders.incoming.Given as goal
 
 abbrev pub invariant-loop-edge : goal.invariant-loop-edge
 invariant-loop-edge l = record {

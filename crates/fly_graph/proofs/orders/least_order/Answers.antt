@@ -1,5 +1,5 @@
 use Rattle.fly_graph.proofs.OrderLemmas.{order_from_acyclic, one_order}
-use Rattle.fly_graph.proofs.least_order.Goals as goal
+use Rattle.fly_graph.proofs.orders.least_order.Goals as goal
 
 pub returns-clause-exists : goal.returns-clause-exists
 returns-clause-exists c = λ graph ends acyclic. order_from_acyclic graph ends acyclic
