@@ -2,4 +2,5 @@ pub mod Keeps
 pub mod Options
 pub mod Dividing
 pub mod Sums
-pub mod Told
+pub mod PlayLemmas
+pub mod WorkersLemmas

@@ -1,6 +1,6 @@
 -- Options that are there, and those that are not.
 use Rattle.std.proofs.Common.{◌≡◌, ℕ, List, [], ◌∷◌, true, false, true≢false, Option, Some, None, is_some, IfSome, option_map, unwrap_or, refl, sym, ap}
-use Rattle.fly_desk.specs.Turns.{slots_out}
+use Rattle.fly_desk.specs.View.{slots_out}
 
 module _ {A : Type 0} where
   pub some_of : (o : Option A) (d : A) → is_some o ≡ true → o ≡ Some (unwrap_or o d)

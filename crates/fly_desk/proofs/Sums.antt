@@ -6,7 +6,7 @@ use Rattle.std.proofs.lemmas.Bool.Decides.{nat_tests}
 use Rattle.std.proofs.lemmas.Option.{slice_get_within, slice_get-get_or, get_or_from_slice_get}
 use mathlib.Core.Option.{some, some-injective, some-ne-none}
 use lib.ListN.{get_elem?}
-use Rattle.fly_desk.specs.History.{StartsWith, once_within, AtTheirPlaces}
+use Rattle.fly_desk.specs.Annals.{StartsWith, one_within, HasCalls}
 
 module _ {V : Type 0} where
   -- the sum after a change of one view
@@ -66,26 +66,26 @@ pub get_longer : {E : Type 0} (log more : List E) (p : ℕ) (x : E) → slice_ge
 get_longer log more p x at = let within = slice_get_within log p x at in
     slice_get-get_or (log ++ more) p x (omega (arith, length-append log more)) ∙ ap (λ y. Some y) (get_or_append_left log more x p within ∙ get_or_from_slice_get log p x x at)
 
-pub stand_longer : {E : Type 0} (log more : List E) (own : List (ℕ × E)) → AtTheirPlaces log own → AtTheirPlaces (log ++ more) own
+pub stand_longer : {E : Type 0} (log more : List E) (own : List (ℕ × E)) → HasCalls log own → HasCalls (log ++ more) own
 stand_longer log more own stand k d within = get_longer log more _ _ (stand k d within)
 
 -- tests of numbers
-pub within_inside : (a b x : ℕ) → a ≤ x → x < b → once_within a b x ≡ 1
+pub within_inside : (a b x : ℕ) → a ≤ x → x < b → one_within a b x ≡ 1
 within_inside a b x low high = grind (arith, nat_tests)
 
-pub within_none : (a x : ℕ) → once_within a a x ≡ 0
+pub within_none : (a x : ℕ) → one_within a a x ≡ 0
 within_none a x = grind (arith, nat_tests)
 
-pub within_next : (a b x : ℕ) → a ≤ b → once_within a b x + cond (eqb b x) 1 0 ≡ once_within a (b + 1) x
+pub within_next : (a b x : ℕ) → a ≤ b → one_within a b x + cond (eqb b x) 1 0 ≡ one_within a (b + 1) x
 within_next a b x le = grind (arith, nat_tests)
 
-pub within_less : (a b x : ℕ) → a < b → once_within (a + 1) b x + cond (eqb a x) 1 0 ≡ once_within a b x
+pub within_less : (a b x : ℕ) → a < b → one_within (a + 1) b x + cond (eqb a x) 1 0 ≡ one_within a b x
 within_less a b x less = grind (arith, nat_tests)
 
-pub within_some : (a b x : ℕ) → 0 < once_within a b x → (a ≤ x) × (x < b)
+pub within_some : (a b x : ℕ) → 0 < one_within a b x → (a ≤ x) × (x < b)
 within_some a b x some_of = (grind (arith, nat_tests), grind (arith, nat_tests))
 
-pub at_most_once : (a b x : ℕ) → once_within a b x ≤ 1
+pub at_most_once : (a b x : ℕ) → one_within a b x ≤ 1
 at_most_once a b x = grind (arith, nat_tests)
 
 pub sum_nothing : {V : Type 0} (f : V → ℕ) (vs : List V) → ((j : ℕ) (u : V) → get_elem? vs j ≡ some u → f u ≡ 0) → sum_by f vs ≡ 0

@@ -1,5 +1,6 @@
-pub mod History
-pub mod Steps
-pub mod Passes
-pub mod Turns
-pub mod Working
+pub mod Annals
+pub mod View
+pub mod Rule
+pub mod Plays
+pub mod Pass
+pub mod Workers

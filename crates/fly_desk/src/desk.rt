@@ -36,7 +36,7 @@ fn only_object<O>(mut slots: Vec<Option<O>>) -> O
 impl<O: Annals> Desk<O> {
     ghost use Rattle.std.specs.Prelude.{◌≡◌, ◌≤◌, [], false, Some, IfOk, IfErr};
     ghost use Rattle.fly_desk.specs.declared.desk.StartFault.TheVariants.{NoMemory};
-    ghost use Rattle.fly_desk.specs.Passes.{IsOf, IsNew};
+    ghost use Rattle.fly_desk.specs.Pass.{IsOf, IsNew};
 
     /// A desk over the object, and a pass with all the calls. Want of memory hands the object back.
     pub fn start(alloc: Global, object: O, calls: u64) -> Result<(Desk<O>, Pass<O>), StartFault<O>>

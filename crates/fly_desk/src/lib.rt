@@ -4,6 +4,7 @@
 mod annals;
 mod desk;
 mod pass;
+mod plays;
 mod rule;
 mod shares;
 mod steps;

@@ -1,7 +1,6 @@
 //! What a worker holds.
 ghost use Rattle.std.specs.Prelude.{◌≡◌, ◌≤◌, is_some, true};
-ghost use Rattle.fly_desk.specs.History.{count_of};
-ghost use Rattle.fly_desk.specs.Turns.{slots_out};
+ghost use Rattle.fly_desk.specs.View.{ticket_count, slots_out};
 
 use crate::rule::Place;
 use crate::shares::{cut, merge};
@@ -15,9 +14,9 @@ pub struct Pass<O: Annals> {
     pub(crate) left: u64,
     ghost live: { is_some seat.me.0.origin ≡ true },
     ghost counted: { left ≡ seat.me.0.left },
-    ghost may_call: { count_of seat.me.0.ticket ≤ left },
-    ghost drawn: { is_some seat.me.0.ticket ≡ is_some seat.me.0.held },
-    ghost slots: { seat.me.1 ≡ slots_out seat.me.0.held },
+    ghost may_call: { ticket_count seat.me.0.ticket ≤ left },
+    ghost drawn: { is_some seat.me.0.ticket ≡ is_some seat.me.0.turn },
+    ghost slots: { seat.me.1 ≡ slots_out seat.me.0.turn },
 }
 
 impl<O: Annals> Drop for Pass<O> {
@@ -28,9 +27,8 @@ impl<O: Annals> Drop for Pass<O> {
 
 impl<O: Annals> Pass<O> {
     ghost use Rattle.std.specs.Prelude.{◌≡◌, ◌+◌, ◌≤◌, ◌++◌, [], false, IfOk, OnOk, OnErr};
-    ghost use Rattle.fly_desk.specs.History.{StartsWith};
-    ghost use Rattle.fly_desk.specs.Steps.{longer};
-    ghost use Rattle.fly_desk.specs.Passes.{IsOf, seen, own, calls_left, is_out, HasSameStart};
+    ghost use Rattle.fly_desk.specs.Annals.{StartsWith, longer_of};
+    ghost use Rattle.fly_desk.specs.Pass.{IsOf, seen, own, calls_left, is_out, HasSameStart};
 
     /// How many calls are left.
     pub fn left(&self) -> u64
@@ -65,7 +63,7 @@ impl<O: Annals> Pass<O> {
         requires idle { (is_out self.old ≡ false) × (is_out other ≡ false) }
         ensures desk { IsOf desk.now self.new }
         ensures idle { is_out self.new ≡ false }
-        ensures seen { seen self.new ≡ longer (seen self.old) (seen other) }
+        ensures seen { seen self.new ≡ longer_of (seen self.old) (seen other) }
         ensures prefixes { StartsWith (seen self.new) (seen self.old) × StartsWith (seen self.new) (seen other) }
         ensures own { own self.new ≡ own self.old ++ own other }
         ensures left { calls_left self.new ≡ calls_left self.old + calls_left other }

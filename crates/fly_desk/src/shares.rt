@@ -1,10 +1,11 @@
 //! Passes that are cut in two, and joined.
 ghost use Rattle.std.specs.Prelude.{◌≡◌, ◌<◌, ◌≤◌, ◌^◌, [], None};
-ghost use Rattle.fly_desk.specs.History.{StartsWith};
-ghost use Rattle.fly_desk.specs.Steps.{keeping, given, merged, settled, longer};
+ghost use Rattle.fly_desk.specs.Annals.{StartsWith, longer_of};
+ghost use Rattle.fly_desk.specs.Plays.{view_with_rest, view_with_share, view_of_both, view_of_longer};
 
 use crate::Annals;
-use crate::rule::{Amount, Cut, Merge, Place, Settle, Steps};
+use crate::plays::{Amount, Cut, Merge, Settle};
+use crate::rule::{Place, Steps};
 use crate::steps::TICKET;
 
 /// Cuts a seat with these of the calls that are left from another.
@@ -15,9 +16,9 @@ pub(crate) fn cut<O: Annals, N: Amount>(
 ) -> Place<O>
     requires calls { (calls ≡ N.amount) × (calls ≤ seat.old.me.0.left) }
     requires table { (seat.old.table_id ≡ board.now.table_id) × (board.now.table_id.words ≡ 2) }
-    requires idle { (seat.old.me.0.ticket ≡ None) × (seat.old.me.0.held ≡ None) }
-    ensures kept { (seat.new.table_id ≡ seat.old.table_id) × (seat.new.id ≡ seat.old.id) × (seat.new.me ≡ (keeping calls seat.old.me.0, seat.old.me.1)) }
-    ensures given { (result.table_id ≡ seat.old.table_id) × (result.me ≡ (given calls seat.old.me.0, [])) }
+    requires idle { (seat.old.me.0.ticket ≡ None) × (seat.old.me.0.turn ≡ None) }
+    ensures kept { (seat.new.table_id ≡ seat.old.table_id) × (seat.new.id ≡ seat.old.id) × (seat.new.me ≡ (view_with_rest calls seat.old.me.0, seat.old.me.1)) }
+    ensures share { (result.table_id ≡ seat.old.table_id) × (result.me ≡ (view_with_share calls seat.old.me.0, [])) }
 {
     board.split_seat::<Cut<N>>(seat)
 }
@@ -25,11 +26,11 @@ pub(crate) fn cut<O: Annals, N: Amount>(
 /// Takes in what another seat knows and has.
 pub(crate) fn merge<O: Annals>(board: &Steps<O>, seat: &mut Place<O>, other: Place<O>)
     requires table { (seat.old.table_id ≡ board.now.table_id) × (other.table_id ≡ board.now.table_id) × (board.now.table_id.words ≡ 2) }
-    requires idle { (seat.old.me.0.ticket ≡ None) × (seat.old.me.0.held ≡ None) }
-    requires other { (other.me.0.ticket ≡ None) × (other.me.0.held ≡ None) × (other.me.1 ≡ []) }
+    requires idle { (seat.old.me.0.ticket ≡ None) × (seat.old.me.0.turn ≡ None) }
+    requires other { (other.me.0.ticket ≡ None) × (other.me.0.turn ≡ None) × (other.me.1 ≡ []) }
     ensures place { (seat.new.table_id ≡ seat.old.table_id) × (seat.new.id ≡ seat.old.id) }
-    ensures knows { seat.new.me ≡ (settled (merged seat.old.me.0 other.me.0), seat.old.me.1) }
-    ensures prefixes { StartsWith (longer seat.old.me.0.seen other.me.0.seen) seat.old.me.0.seen × StartsWith (longer seat.old.me.0.seen other.me.0.seen) other.me.0.seen }
+    ensures knows { seat.new.me ≡ (view_of_longer (view_of_both seat.old.me.0 other.me.0), seat.old.me.1) }
+    ensures prefixes { StartsWith (longer_of seat.old.me.0.seen other.me.0.seen) seat.old.me.0.seen × StartsWith (longer_of seat.old.me.0.seen other.me.0.seen) other.me.0.seen }
     ensures fits { seat.new.me.0.left < 2 ^ 64 }
 {
     board.join_seat::<Merge>(seat, other);

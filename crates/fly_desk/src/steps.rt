@@ -3,12 +3,14 @@ ghost use Rattle.std.specs.Prelude.{◌≡◌, ◌+◌, ◌<◌, ◌≤◌, ◌�
 ghost use Rattle.std.specs.Mem.Slots.{slots_items, slots_len, IsFull};
 ghost use Rattle.atomic_table.specs.Table.{Final, Seen};
 ghost use Rattle.fly_desk.specs.declared.view.Origin.{Origin};
-ghost use Rattle.fly_desk.specs.History.{StartsWith, AtTheirPlaces, IsDesk};
-ghost use Rattle.fly_desk.specs.Steps.{taking, passing};
-ghost use Rattle.fly_desk.specs.Turns.{AddsOne, list_in, spare_in, basis_in};
+ghost use Rattle.fly_desk.specs.Annals.{StartsWith, HasCalls, AddsOne};
+ghost use Rattle.fly_desk.specs.View.{list_in, spare_in, opening_in, basis_in};
+ghost use Rattle.fly_desk.specs.Rule.{IsDesk};
+ghost use Rattle.fly_desk.specs.Plays.{view_with_turn, view_with_call};
 
 use crate::Annals;
-use crate::rule::{Board, Look, PassOn, Place, Steps};
+use crate::plays::{Look, PassOn};
+use crate::rule::{Board, Place, Steps};
 use atomic_table::Closed;
 use std::alloc::Global;
 use std::sync::Wait;
@@ -30,11 +32,12 @@ pub(crate) fn wait_for<O: Annals, R: Wait>(
     ticket: u64,
 ) -> O
     requires table { (seat.old.table_id ≡ board.now.table_id) × (board.now.table_id.words ≡ 2) × (board.now.table_id.slots ≡ 1) }
-    requires waits { (seat.old.me.0.ticket ≡ Some ticket) × (seat.old.me.0.held ≡ None) × (seat.old.me.1 ≡ []) }
+    requires waits { (seat.old.me.0.ticket ≡ Some ticket) × (seat.old.me.0.turn ≡ None) × (seat.old.me.1 ≡ []) }
     ensures place { (seat.new.table_id ≡ seat.old.table_id) × (seat.new.id ≡ seat.old.id) }
-    ensures turn { seat.new.me ≡ (taking seat.old.me.0 (O.entries result) (O.spare result), (0, None) ∷ []) }
+    ensures turn { seat.new.me ≡ (view_with_turn seat.old.me.0 (O.entries result) (O.spare result), (0, None) ∷ []) }
     ensures seen { StartsWith (O.entries result) seat.old.me.0.seen }
-    ensures placed { AtTheirPlaces (O.entries result) seat.old.me.0.own }
+    ensures placed { HasCalls (O.entries result) seat.old.me.0.own }
+    ensures opening { StartsWith (O.entries result) (opening_in seat.old.me.0) }
     ensures basis { IfSome seat.old.me.0.origin (λ o. O.basis result ≡ o.basis) }
     ensures spare { 0 < O.spare result }
 {
@@ -48,20 +51,30 @@ pub(crate) fn wait_for<O: Annals, R: Wait>(
     unreachable!()
 }
 
-/// Puts the object home, serves the next ticket and wakes whoever waits for it.
+// Wakes whoever waits, once this ticket was served. Where the next one isn't drawn yet nobody waits, and whoever draws it
+// finds it served.
+fn wake_waiting<O: Annals>(board: &Steps<O>, served: u64)
+    requires { board.now.table_id.words ≡ 2 }
+{
+    if board.peek(TICKET) != served.wrapping_add(1) {
+        board.wake_all(SERVING);
+    }
+}
+
+/// Puts the object home, serves the next ticket and wakes whoever waits.
 pub(crate) fn bring_home<O: Annals>(board: &Steps<O>, seat: &mut Place<O>, object: O)
     requires table { (seat.old.table_id ≡ board.now.table_id) × (board.now.table_id.words ≡ 2) × (board.now.table_id.slots ≡ 1) }
-    requires turn { (is_some seat.old.me.0.origin ≡ true) × (is_some seat.old.me.0.held ≡ true) × (seat.old.me.1 ≡ (0, None) ∷ []) }
+    requires turn { (is_some seat.old.me.0.origin ≡ true) × (is_some seat.old.me.0.turn ≡ true) × (seat.old.me.1 ≡ (0, None) ∷ []) }
     requires entry { AddsOne (list_in seat.old.me.0) (O.entries object) }
     requires spare { spare_in seat.old.me.0 ≤ O.spare object + 1 }
     requires basis { basis_in seat.old.me.0 ≡ Some (O.basis object) }
     ensures place { (seat.new.table_id ≡ seat.old.table_id) × (seat.new.id ≡ seat.old.id) }
-    ensures turn { (entry : O.Entry) → O.entries object ≡ list_in seat.old.me.0 ++ entry ∷ [] → seat.new.me ≡ (passing seat.old.me.0 (list_in seat.old.me.0) entry, []) }
+    ensures turn { (entry : O.Entry) → O.entries object ≡ list_in seat.old.me.0 ++ entry ∷ [] → seat.new.me ≡ (view_with_call seat.old.me.0 (list_in seat.old.me.0) entry, []) }
 {
     let emptied = board.exchange(seat, OBJECT, Some(object));
     let None = emptied else { unreachable!() };
-    board.fetch_add::<PassOn>(seat, SERVING, 1);
-    board.wake_all(SERVING);
+    let served = board.fetch_add::<PassOn>(seat, SERVING, 1);
+    wake_waiting(board, served);
 }
 
 /// Closes the table, in a state in which the seat has its view.

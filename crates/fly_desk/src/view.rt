@@ -5,6 +5,7 @@ use std::collections::LinkedList;
 pub struct Origin<E, B> {
     /// The object's list at the start.
     pub opening: LinkedList<E>,
+    /// The object's basis at the start.
     pub basis: B,
     /// How many calls all passes have together.
     pub calls: u64,
@@ -16,14 +17,14 @@ pub struct View<E, B> {
     pub origin: Option<Origin<E, B>>,
     /// The longest list that the pass has seen.
     pub seen: LinkedList<E>,
-    /// What another pass had seen that was joined to this one.
-    pub told: LinkedList<E>,
+    /// What another pass had seen that was joined to this one, until this one has settled which is longer.
+    pub note: LinkedList<E>,
     /// The pass's own calls, each with its place in the list.
     pub own: LinkedList<(u64, E)>,
     /// How many calls are left.
     pub left: u64,
     /// The ticket that waits, or is served.
     pub ticket: Option<u64>,
-    /// The object's list and spare as it was handed out.
-    pub held: Option<(LinkedList<E>, u64)>,
+    /// While the pass has the turn: the object's list and spare as it was handed out.
+    pub turn: Option<(LinkedList<E>, u64)>,
 }

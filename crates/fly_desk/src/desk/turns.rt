@@ -1,17 +1,18 @@
 //! The turns at a desk.
 use super::Desk;
-use crate::rule::Draw;
+use crate::plays::Draw;
 use crate::steps::{OBJECT, TICKET, bring_home, shut, wait_for};
 use crate::{Annals, Pass, Turn};
 use std::sync::Wait;
 
 impl<O: Annals> Desk<O> {
     ghost use Rattle.std.specs.Prelude.{◌≡◌, ◌+◌, ◌<◌, ◌≤◌, ◌∷◌, ◌++◌, [], true, false, Some, length};
-    ghost use Rattle.fly_desk.specs.History.{StartsWith, AtTheirPlaces, IsMadeOf};
-    ghost use Rattle.fly_desk.specs.Turns.{AddsOne};
-    ghost use Rattle.fly_desk.specs.Passes.{IsOf, seen, own, calls_left, calls_of, opening_of, basis_of, is_out, list_out, spare_out, HasSameStart, KeepsItsCalls};
+    ghost use Rattle.fly_desk.specs.Annals.{StartsWith, HasCalls, IsMadeOf, AddsOne};
+    ghost use Rattle.fly_desk.specs.Pass.{IsOf, seen, own, calls_left, calls_of, opening_of, basis_of, is_out, list_out, spare_out, HasSameStart, KeepsItsCalls};
 
     /// Waits for a turn, and hands the object out. Nothing is said of how long it waits, nor in which order threads come.
+    ///
+    /// A turn ends in `leave`. A thread that has a turn out and enters the same desk by another pass waits for ever.
     pub fn enter<R: Wait>(&self, rt: &R, pass: &mut Pass<O>) -> Turn<O>
         requires desk { IsOf self.now pass.old }
         requires idle { is_out pass.old ≡ false }
@@ -20,8 +21,9 @@ impl<O: Annals> Desk<O> {
         ensures out { is_out pass.new ≡ true }
         ensures list { list_out pass.new ≡ O.entries result }
         ensures spare { (spare_out pass.new ≡ O.spare result) × (0 < O.spare result) }
+        ensures opening { StartsWith (O.entries result) (opening_of pass.old) }
         ensures seen { StartsWith (O.entries result) (seen pass.old) }
-        ensures placed { AtTheirPlaces (O.entries result) (own pass.old) }
+        ensures placed { HasCalls (O.entries result) (own pass.old) }
         ensures basis { basis_of pass.new ≡ Some (O.basis result) }
         ensures start { HasSameStart pass.new pass.old }
         ensures kept { KeepsItsCalls pass.old pass.new }

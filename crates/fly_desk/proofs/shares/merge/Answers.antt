@@ -8,4 +8,4 @@ join_seat-requires g c = let a = g.O.Annals in
 
 pub load-requires : goal.load-requires
 load-requires g c = let a = g.O.Annals in let now = c.join_seat.ensures.2 in
-    (search rules, search rules, settles a.entries a.spare a.basis _ _ _ _ _ (ap (λ m. m.0.ticket) now ∙ c.requires.idle.0) (ap (λ m. m.0.held) now ∙ c.requires.idle.1))
+    (search rules, search rules, settles a.entries a.spare a.basis _ _ _ _ _ (ap (λ m. m.0.ticket) now ∙ c.requires.idle.0) (ap (λ m. m.0.turn) now ∙ c.requires.idle.1))

@@ -3,7 +3,7 @@ use Rattle.std.specs.Prelude.{◌≡◌, ℕ, List, [], Bool, false, is_some, Op
 use Rattle.fly_desk.specs.declared.annals.Annals.{Ghosts}
 use Rattle.fly_desk.specs.declared.desk.Desk.{Desk}
 use Rattle.fly_desk.specs.declared.pass.Pass.{Pass}
-use Rattle.fly_desk.specs.Turns.{list_in, spare_in, opening_in, basis_in, calls_in}
+use Rattle.fly_desk.specs.View.{list_in, spare_in, opening_in, basis_in, calls_in}
 
 module _ {O E B : Type 0} {g : Ghosts O E B} where
   -- the pass is one of the desk's
@@ -34,7 +34,7 @@ module _ {O E B : Type 0} {g : Ghosts O E B} where
 
   -- whether a turn of the pass is out
   abbrev pub is_out : Pass O E B g → Bool
-  is_out pass = is_some pass.seat.me.0.held
+  is_out pass = is_some pass.seat.me.0.turn
 
   -- the list and the spare that the object had when it was handed out
   abbrev pub list_out : Pass O E B g → List E
