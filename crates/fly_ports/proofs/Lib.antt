@@ -1,2 +1,3 @@
-mod Grown
-mod Moments
+mod ListClockLemmas
+mod MemFilesLemmas
+pub mod Parts

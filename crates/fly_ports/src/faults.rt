@@ -1,3 +1,6 @@
+ghost use Rattle.std.specs.Prelude.{◌≡◌};
+
+use fly_types::NoMemory;
 use thiserror::Error;
 
 /// Why a file gave no bytes.
@@ -9,6 +12,16 @@ pub enum ReadFault {
     Absent,
     #[error("out of memory")]
     NoMemory,
+}
+
+impl From<NoMemory> for ReadFault {
+    ghost use Rattle.fly_ports.specs.declared.faults.ReadFault.TheVariants.{NoMemory as no_memory};
+
+    ghost from_gives = { λ _ fault. fault ≡ no_memory };
+
+    fn from(_: NoMemory) -> ReadFault {
+        ReadFault::NoMemory
+    }
 }
 
 /// Why bytes were not all written.
@@ -25,4 +38,14 @@ pub enum SpawnFault {
     Failed,
     #[error("out of memory")]
     NoMemory,
+}
+
+impl From<NoMemory> for SpawnFault {
+    ghost use Rattle.fly_ports.specs.declared.faults.SpawnFault.TheVariants.{NoMemory as no_memory};
+
+    ghost from_gives = { λ _ fault. fault ≡ no_memory };
+
+    fn from(_: NoMemory) -> SpawnFault {
+        SpawnFault::NoMemory
+    }
 }

@@ -1,7 +1,7 @@
-ghost use Rattle.std.specs.Prelude.{◌≡◌, Some};
-ghost use Rattle.fly_ports.specs.Faults.{counted};
-ghost use Rattle.fly_ports.specs.Answers.{answered};
-ghost use Rattle.fly_ports.specs.ClockMemory.{answer_at, first_answers};
+ghost use Rattle.std.specs.Prelude.{◌≡◌};
+ghost use Rattle.fly_ports.specs.Faults.{next_count};
+ghost use Rattle.fly_ports.specs.Clock.{Gives};
+ghost use Rattle.fly_ports.specs.ListClock.{answer_at, clock_state};
 
 use crate::Clock;
 use fly_types::List;
@@ -15,14 +15,11 @@ pub struct ListClock {
 }
 
 impl Model for ListClock {
-    ghost use Rattle.std.specs.Prelude.{◌≤◌, ◌^◌, ◌-◌};
-    ghost use Rattle.fly_ports.specs.ClockMemory.{ClockMemory};
+    ghost use Rattle.fly_ports.specs.ListClock.{ClockMemory};
 
     ghost Value = { ClockMemory };
 
     ghost view = { λ c. record { answers = c.answers; calls = c.calls } };
-
-    ghost invariant = { λ c. c.calls ≤ 2 ^ 64 - 1 };
 }
 
 impl ListClock {
@@ -33,7 +30,7 @@ impl ListClock {
     }
 }
 
-/// The next of the answers after so many, then the last again, and 0 where there are none.
+/// The next of the answers after so many calls, then the last again, and 0 where there are none.
 fn answer_after(answers: &[i64], calls: u64) -> i64
     ensures { result ≡ answer_at answers.now calls }
 {
@@ -45,12 +42,12 @@ fn answer_after(answers: &[i64], calls: u64) -> i64
 }
 
 impl Clock for ListClock {
-    ghost answers = { λ c. Some (first_answers c.answers c.calls) };
+    ghost state = { clock_state };
 
     fn now(&mut self) -> i64
-        ensures told { Some (first_answers self.new.answers self.new.calls) ≡ answered (Some (first_answers self.old.answers self.old.calls)) result }
+        ensures gives { Gives (clock_state self.old) (clock_state self.new) result }
         ensures answer { result ≡ answer_at self.old.answers self.old.calls }
-        ensures state { self.new ≡ record self.old { calls = counted self.old.calls } }
+        ensures after { self.new ≡ record self.old { calls = next_count self.old.calls } }
     {
         let calls = self.calls;
         self.calls = calls.saturating_add(1);

@@ -1,7 +1,5 @@
-ghost use Rattle.std.specs.Prelude.{◌≡◌, OnOk, OnErr, IfOk, is_ok, Some};
-ghost use Rattle.std.specs.Io.KnownBytes.{append_known};
-ghost use Rattle.fly_ports.specs.Faults.{HasCause};
-ghost use Rattle.fly_ports.specs.Written.{WritesPart};
+ghost use Rattle.std.specs.Prelude.{◌≡◌, OnOk, OnErr, IfOk, is_ok};
+ghost use Rattle.fly_ports.specs.Sink.{Writes, FailsToWrite};
 
 use crate::room::add_within;
 use crate::{Sink, WriteFault};
@@ -21,7 +19,7 @@ pub struct MemSink {
 
 impl Model for MemSink {
     ghost use Rattle.std.specs.Prelude.{◌≤◌, vec_capacity};
-    ghost use Rattle.fly_ports.specs.SinkMemory.{SinkMemory};
+    ghost use Rattle.fly_ports.specs.MemSink.{SinkMemory};
 
     ghost Value = { SinkMemory };
 
@@ -31,7 +29,7 @@ impl Model for MemSink {
 }
 
 impl MemSink {
-    ghost use Rattle.fly_ports.specs.SinkMemory.{new_sink};
+    ghost use Rattle.fly_ports.specs.MemSink.{new_sink};
 
     /// An empty sink. The calls of `put` whose numbers, from 1, are in `bad` fail and write nothing.
     /// A call that goes past the room writes what there is room for, and fails.
@@ -64,18 +62,15 @@ impl MemSink {
 }
 
 impl Sink for MemSink {
-    ghost use Rattle.fly_ports.specs.SinkMemory.{takes_all, after_put};
+    ghost use Rattle.fly_ports.specs.MemSink.{sink_state, takes_all, sink_after};
 
-    ghost written = { λ s. Some s.written };
-
-    ghost faults = { λ s. s.faults };
+    ghost state = { sink_state };
 
     fn put(&mut self, bytes: &[u8]) -> Result<(), WriteFault>
-        ensures written { OnOk result (Some self.new.written ≡ append_known (Some self.old.written) bytes.now) }
-        ensures partial { OnErr result (WritesPart (Some self.old.written) (Some self.new.written) bytes.now) }
-        ensures cause { HasCause self.old.faults self.new.faults result }
+        ensures ok { OnOk result (Writes (sink_state self.old) (sink_state self.new) bytes.now) }
+        ensures err { OnErr result (FailsToWrite (sink_state self.old) (sink_state self.new) bytes.now) }
         ensures answer { is_ok result ≡ takes_all self.old bytes.now }
-        ensures state { self.new ≡ after_put self.old bytes.now }
+        ensures after { self.new ≡ sink_after self.old bytes.now }
     {
         self.calls = self.calls.saturating_add(1);
         let is_bad = self.bad.as_slice().contains(&self.calls);

@@ -1,4 +1,4 @@
-ghost use Rattle.std.specs.Prelude.{◌≡◌, ◌-◌, ◌≤◌, ◌++◌, length, take, vec_capacity, nat_le};
+ghost use Rattle.std.specs.Prelude.{◌≡◌, ◌+◌, ◌-◌, ◌≤◌, ◌++◌, length, take, vec_capacity, nat_le};
 
 /// Adds what there is room for, and says whether that was all.
 pub(crate) fn add_within(held: &mut Vec<u8>, room: u64, bytes: &[u8]) -> bool
@@ -17,13 +17,13 @@ pub(crate) fn add_within(held: &mut Vec<u8>, room: u64, bytes: &[u8]) -> bool
     }
 }
 
-/// The first bytes, as many as asked or all.
-pub(crate) fn front(bytes: &[u8], most: usize) -> &[u8]
-    ensures bytes { result.now ≡ take most bytes.now }
-    ensures bound { length result.now ≤ most }
+/// The first `limit + 1` bytes, or all of them where there are fewer.
+pub(crate) fn front_past(bytes: &[u8], limit: u64) -> &[u8]
+    ensures bytes { result.now ≡ take (limit + 1) bytes.now }
+    ensures bound { length result.now ≤ limit + 1 }
 {
-    if most < bytes.len() {
-        &bytes[..most]
+    if limit < bytes.len() as u64 {
+        &bytes[..limit as usize + 1]
     } else {
         bytes
     }

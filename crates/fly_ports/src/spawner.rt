@@ -1,6 +1,5 @@
-ghost use Rattle.std.specs.Prelude.{◌≡◌, ◌≤◌, ℕ, List, Option, IfOk, length};
-ghost use Rattle.fly_ports.specs.Runs.{CountsRun, ran};
-ghost use Rattle.fly_ports.specs.declared.spawner.Run.{Run};
+ghost use Rattle.std.specs.Prelude.{◌≡◌, ◌≤◌, IfOk, length};
+ghost use Rattle.fly_ports.specs.Spawner.{SpawnerState, run_of, RunsProgram};
 ghost use Rattle.fly_ports.specs.declared.spawner.TheConstants.{MAX_OUTPUT};
 
 use crate::SpawnFault;
@@ -39,29 +38,46 @@ pub struct Run {
 }
 
 impl Run {
-    pub fn copy(&self, alloc: Global) -> Result<Run, NoMemory>
-        ensures { IfOk result (λ run. run ≡ self.now) }
+    /// A run with copies of these.
+    pub(crate) fn of(
+        alloc: Global,
+        name: &Text,
+        words: &List<Text>,
+        input: &[u8],
+        answer: &Result<Ended, SpawnFault>,
+    ) -> Result<Run, NoMemory>
+        ensures { IfOk result (λ run. run ≡ run_of name.now words.now input.now answer.now) }
     {
-        let answer = match &self.answer {
+        let answer = match answer {
             Ok(ended) => Ok(ended.copy(alloc)?),
             Err(fault) => Err(*fault),
         };
         Ok(Run {
-            name: self.name.copy(alloc)?,
-            words: self.words.copy(alloc)?,
-            input: self.input.copy(alloc)?,
+            name: name.copy(alloc)?,
+            words: words.copy(alloc)?,
+            input: Bytes::from_vec(Vec::from_slice(alloc, input)?),
             answer,
         })
+    }
+
+    pub fn copy(&self, alloc: Global) -> Result<Run, NoMemory>
+        ensures { IfOk result (λ run. run ≡ self.now) }
+    {
+        Run::of(
+            alloc,
+            &self.name,
+            &self.words,
+            self.input.as_slice(),
+            &self.answer,
+        )
     }
 }
 
 /// Runs programs, one at a time.
 pub trait Spawner {
-    /// The runs so far, where they are told; a call that answered for want of memory is none.
-    ghost runs: { Self → Option (List Run) };
-
-    /// How many runs have failed, up to the last value of a `u64`.
-    ghost faults: { Self → ℕ };
+    /// The runs so far, where they are told (a call that answered for want of memory is none), and how many
+    /// of them have failed.
+    ghost state: { Self → SpawnerState };
 
     /// Starts the first word with the others, hands it `input`, and waits for its end. A program that
     /// leaves some of its input unread is no fault. Output past `MAX_OUTPUT` bytes is dropped.
@@ -72,8 +88,6 @@ pub trait Spawner {
         words: &List<Text>,
         input: &[u8],
     ) -> Result<Ended, SpawnFault>
-        ensures told { runs self.new ≡ ran (runs self.old) name.now words.now input.now result }
-        ensures bound { IfOk result (λ ended. length ended.out ≤ MAX_OUTPUT) }
-        ensures later { faults self.old ≤ faults self.new }
-        ensures cause { CountsRun (faults self.old) (faults self.new) result };
+        ensures answer { RunsProgram (state self.old) (state self.new) name.now words.now input.now result }
+        ensures bound { IfOk result (λ ended. length ended.out ≤ MAX_OUTPUT) };
 }

@@ -1,7 +1,6 @@
-ghost use Rattle.std.specs.Prelude.{◌≡◌, ◌≤◌, ◌+◌, None, IfOk, OnOk, OnErr, vec_len};
-ghost use Rattle.std.specs.Io.KnownBytes.{Appends, append_known};
-ghost use Rattle.fly_ports.specs.Faults.{HasCause};
-ghost use Rattle.fly_ports.specs.Written.{WritesPart};
+ghost use Rattle.std.specs.Prelude.{◌≡◌, ◌≤◌, ◌+◌, IfOk, OnOk, OnErr, vec_len};
+ghost use Rattle.std.specs.Io.KnownBytes.{Appends};
+ghost use Rattle.fly_ports.specs.Sink.{Writes, FailsToWrite};
 
 use crate::{Files, ReadFault, Sink, WriteFault};
 use std::alloc::Global;
@@ -86,20 +85,20 @@ fn append_all<R: rt::Files>(runtime: &R, path: &str, bytes: &[u8]) -> io::Result
 }
 
 impl<'r, R: rt::Files> Files for OsFiles<'r, R> {
-    ghost use Rattle.fly_ports.specs.System.{read_faults, append_faults};
+    ghost use Rattle.fly_ports.specs.System.{files_state};
 
-    ghost contents = { λ _. None };
-
-    ghost read_faults = { read_faults };
-
-    ghost append_faults = { append_faults };
+    ghost state = { files_state };
 
     fn read(&mut self, alloc: Global, path: &str, limit: u64) -> Result<Vec<u8>, ReadFault> {
-        let answer = read_front(self.runtime, alloc, path, limit);
-        if let Err(ReadFault::Failed) = answer {
-            self.read_faults = self.read_faults.saturating_add(1);
+        match read_front(self.runtime, alloc, path, limit) {
+            Ok(bytes) => Ok(bytes),
+            Err(ReadFault::Failed) => {
+                self.read_faults = self.read_faults.saturating_add(1);
+                Err(ReadFault::Failed)
+            }
+            Err(ReadFault::Absent) => Err(ReadFault::Absent),
+            Err(ReadFault::NoMemory) => Err(ReadFault::NoMemory),
         }
-        answer
     }
 
     fn append(&mut self, path: &str, bytes: &[u8]) -> Result<(), WriteFault> {
@@ -157,16 +156,13 @@ fn write_out<W: Write>(writer: &mut W, bytes: &[u8]) -> io::Result<()>
 }
 
 impl<W: Write> Sink for OsSink<W> {
-    ghost use Rattle.fly_ports.specs.System.{writer, faults as count};
+    ghost use Rattle.fly_ports.specs.System.{writer, sink_state};
 
-    ghost written = { λ _. None };
-
-    ghost faults = { count };
+    ghost state = { sink_state };
 
     fn put(&mut self, bytes: &[u8]) -> Result<(), WriteFault>
-        ensures written { OnOk result (None ≡ append_known None bytes.now) }
-        ensures partial { OnErr result (WritesPart None None bytes.now) }
-        ensures cause { HasCause (count self.old) (count self.new) result }
+        ensures ok { OnOk result (Writes (sink_state self.old) (sink_state self.new) bytes.now) }
+        ensures err { OnErr result (FailsToWrite (sink_state self.old) (sink_state self.new) bytes.now) }
         // A writer that tells its bytes has got all of these.
         ensures passed { OnOk result (Appends (W.contents (writer self.old)) (W.contents (writer self.new)) bytes.now) }
     {

@@ -1,9 +1,10 @@
-ghost use Rattle.std.specs.Prelude.{◌≡◌, ◌≤◌, IfOk, Some, length};
-ghost use Rattle.fly_ports.specs.Runs.{CountsRun, ran};
-ghost use Rattle.fly_ports.specs.SpawnerMemory.{cut, found, Answers};
+ghost use Rattle.std.specs.Prelude.{◌≡◌, ◌≤◌, ◌++◌, ◌∷◌, [], IfOk, OnOk, OnErr, length, option_map, bytes_eq};
+ghost use Rattle.std.specs.List.{find};
+ghost use Rattle.fly_ports.specs.Spawner.{RunsProgram, run_of};
+ghost use Rattle.fly_ports.specs.TableSpawner.{short_end, answer_of as answer_by_name, IsDue};
 ghost use Rattle.fly_ports.specs.declared.spawner.TheConstants.{MAX_OUTPUT};
 
-use crate::room::front;
+use crate::room::front_past;
 use crate::{Ended, MAX_OUTPUT, Run, SpawnFault, Spawner};
 use fly_types::{Bytes, List, NoMemory, Text};
 use std::alloc::Global;
@@ -20,7 +21,7 @@ pub struct TableSpawner {
 }
 
 impl Model for TableSpawner {
-    ghost use Rattle.fly_ports.specs.SpawnerMemory.{SpawnerMemory};
+    ghost use Rattle.fly_ports.specs.TableSpawner.{SpawnerMemory};
 
     ghost Value = { SpawnerMemory };
 
@@ -28,7 +29,7 @@ impl Model for TableSpawner {
 }
 
 impl TableSpawner {
-    ghost use Rattle.fly_ports.specs.SpawnerMemory.{new_spawner};
+    ghost use Rattle.fly_ports.specs.TableSpawner.{new_spawner};
 
     /// Each run has the answer of the first pair with its name, with at most the first [`MAX_OUTPUT`]
     /// bytes of its output. The calls whose numbers, from 1, are in `bad` fail, and so does a run whose
@@ -60,65 +61,56 @@ impl TableSpawner {
     }
 }
 
-/// An answer with the first bytes of its output.
-fn kept(alloc: Global, ended: &Ended) -> Result<Ended, NoMemory>
-    ensures cut { IfOk result (λ kept. kept ≡ cut ended.now) }
-    ensures bound { IfOk result (λ kept. length kept.out ≤ MAX_OUTPUT) }
+/// The end with the first bytes of its output, as many as are kept.
+fn shorten(alloc: Global, ended: &Ended) -> Result<Ended, NoMemory>
+    ensures end { IfOk result (λ short. short ≡ short_end ended.now) }
+    ensures bound { IfOk result (λ short. length short.out ≤ MAX_OUTPUT) }
 {
-    let out = front(ended.out.as_slice(), MAX_OUTPUT);
+    let out = front_past(ended.out.as_slice(), MAX_OUTPUT as u64 - 1);
     Ok(Ended {
         status: ended.status,
         out: Bytes::from_vec(Vec::from_slice(alloc, out)?),
     })
 }
 
+/// The first pair with this name.
+fn pair_of<'a>(answers: &'a [(Text, Ended)], name: &str) -> Option<&'a (Text, Ended)>
+    ensures { option_map (λ r. r.now) result ≡ find (λ pair. bytes_eq pair.0 name.now) answers.now }
+{
+    answers.iter().find(|pair| pair.0.as_str() == name)
+}
+
 /// The answer of the first pair with this name.
-fn find(alloc: Global, answers: &[(Text, Ended)], name: &str) -> Result<Ended, SpawnFault>
-    ensures answer { Answers result (found answers.now name.now) }
+fn answer_of(alloc: Global, answers: &[(Text, Ended)], name: &str) -> Result<Ended, SpawnFault>
+    ensures answer { IsDue result (answer_by_name answers.now name.now) }
     ensures bound { IfOk result (λ ended. length ended.out ≤ MAX_OUTPUT) }
 {
-    match answers {
-        [] => Err(SpawnFault::Failed),
-        [first, rest @ ..] => {
-            if first.0.as_str() != name {
-                return find(alloc, rest, name);
-            }
-            match kept(alloc, &first.1) {
-                Ok(ended) => Ok(ended),
-                Err(_) => Err(SpawnFault::NoMemory),
-            }
-        }
+    match pair_of(answers, name) {
+        Some(pair) => Ok(shorten(alloc, &pair.1)?),
+        None => Err(SpawnFault::Failed),
     }
 }
 
-/// What a list of runs keeps of one.
-fn noted(
+/// Adds a run with copies of these.
+fn note(
     alloc: Global,
+    runs: &mut Vec<Run>,
     name: &Text,
     words: &List<Text>,
     input: &[u8],
     answer: &Result<Ended, SpawnFault>,
-) -> Result<Run, NoMemory>
-    ensures { IfOk result (λ run. run ≡ record { name = name.now; words = words.now; input = input.now; answer = answer.now }) }
+) -> Result<(), NoMemory>
+    ensures ok { OnOk result (runs.new.items ≡ runs.old.items ++ run_of name.now words.now input.now answer.now ∷ []) }
+    ensures err { OnErr result (runs.new.items ≡ runs.old.items) }
 {
-    let answer = match answer {
-        Ok(ended) => Ok(ended.copy(alloc)?),
-        Err(fault) => Err(*fault),
-    };
-    Ok(Run {
-        name: name.copy(alloc)?,
-        words: words.copy(alloc)?,
-        input: Bytes::from_vec(Vec::from_slice(alloc, input)?),
-        answer,
-    })
+    let run = Run::of(alloc, name, words, input, answer)?;
+    Ok(runs.push(run)?)
 }
 
 impl Spawner for TableSpawner {
-    ghost use Rattle.fly_ports.specs.SpawnerMemory.{answer_of, after_run};
+    ghost use Rattle.fly_ports.specs.TableSpawner.{spawner_state, next_answer, spawner_after};
 
-    ghost runs = { λ s. Some s.runs };
-
-    ghost faults = { λ s. s.faults };
+    ghost state = { spawner_state };
 
     fn run(
         &mut self,
@@ -127,28 +119,21 @@ impl Spawner for TableSpawner {
         words: &List<Text>,
         input: &[u8],
     ) -> Result<Ended, SpawnFault>
-        ensures told { Some self.new.runs ≡ ran (Some self.old.runs) name.now words.now input.now result }
+        ensures answer { RunsProgram (spawner_state self.old) (spawner_state self.new) name.now words.now input.now result }
         ensures bound { IfOk result (λ ended. length ended.out ≤ MAX_OUTPUT) }
-        ensures later { self.old.faults ≤ self.new.faults }
-        ensures cause { CountsRun self.old.faults self.new.faults result }
-        ensures answer { Answers result (answer_of self.old name.now) }
-        ensures state { self.new ≡ after_run self.old name.now words.now input.now result }
+        ensures due { IsDue result (next_answer self.old name.now) }
+        ensures after { self.new ≡ spawner_after self.old name.now words.now input.now result }
     {
         let number = self.calls.saturating_add(1);
         let answer = if self.bad.as_slice().contains(&number) {
             Err(SpawnFault::Failed)
         } else {
-            find(alloc, self.answers.as_slice(), name.as_str())
+            answer_of(alloc, self.answers.as_slice(), name.as_str())
         };
         if let Err(SpawnFault::NoMemory) = answer {
             return Err(SpawnFault::NoMemory);
         }
-        let Ok(run) = noted(alloc, name, words, input, &answer) else {
-            return Err(SpawnFault::NoMemory);
-        };
-        if self.runs.push(run).is_err() {
-            return Err(SpawnFault::NoMemory);
-        }
+        note(alloc, &mut self.runs, name, words, input, &answer)?;
         self.calls = number;
         if answer.is_err() {
             self.faults = self.faults.saturating_add(1);

@@ -70,7 +70,7 @@ fn a_read_takes_one_byte_past_its_limit(rt: HostRuntime) -> Result<(), Fail> {
 fn a_numbered_read_fails_once(rt: HostRuntime) -> Result<(), Fail> {
     let alloc = rt.alloc();
     let mut files = two_files(alloc, &[2], &[])?;
-    assert!(rt; files.read(alloc, "b", 9).is_err());
+    assert_eq!(rt; files.read(alloc, "b", 9).err(), Some(ReadFault::Absent));
     assert_eq!(rt; files.read(alloc, "a", 9).err(), Some(ReadFault::Failed));
     assert_eq!(rt; files.read_faults(), 1);
     assert_eq!(rt; files.read(alloc, "a", 9)?.len(), 6);
@@ -86,8 +86,8 @@ fn appends_make_files_and_end_at_their_room(rt: HostRuntime) -> Result<(), Fail>
     files.append("b", b"xy")?;
     assert_eq!(rt; files.append("b", b"zzz"), Err(WriteFault::Failed));
     assert!(rt; holds(&files, "b", b"xyzz"));
-    assert!(rt; files.append("a", b"i").is_err());
-    assert!(rt; files.append("c", b"i").is_err());
+    assert_eq!(rt; files.append("a", b"i"), Err(WriteFault::Failed));
+    assert_eq!(rt; files.append("c", b"i"), Err(WriteFault::Failed));
     assert!(rt; holds(&files, "a", b"abcdefgh"));
     assert!(rt; files.content("c").is_none());
     assert_eq!(rt; files.append_faults(), 3);
@@ -99,7 +99,7 @@ fn a_sink_fills_up(rt: HostRuntime) -> Result<(), Fail> {
     let alloc = rt.alloc();
     let mut sink = MemSink::make(alloc, 5, numbers(alloc, &[2])?)?;
     sink.put(b"abc")?;
-    assert!(rt; sink.put(b"d").is_err());
+    assert_eq!(rt; sink.put(b"d"), Err(WriteFault::Failed));
     assert_eq!(rt; sink.put(b"def"), Err(WriteFault::Failed));
     assert_eq!(rt; sink.bytes(), b"abcde".as_slice());
     assert_eq!(rt; sink.faults(), 2);
@@ -126,13 +126,17 @@ fn runs_are_answered_by_name(rt: HostRuntime) -> Result<(), Fail> {
         spawner.run(alloc, &name, &words, b"{}").err(),
         Some(SpawnFault::Failed)
     );
-    assert!(rt;
-        spawner
-            .run(alloc, &text(alloc, "e1/n1@0")?, &words, b"{}")
-            .is_err()
-    );
-    assert_eq!(rt; spawner.faults(), 2);
-    assert_eq!(rt; spawner.runs().len(), 3);
+    let other = spawner.run(alloc, &text(alloc, "e1/n1@0")?, &words, b"{}");
+    assert_eq!(rt; other.err(), Some(SpawnFault::Failed));
+    assert_eq!(rt; (spawner.faults(), spawner.runs().len()), (2, 3));
+    if let [first, _, last] = spawner.runs() {
+        assert_eq!(rt; first.name.as_str(), "e1/n0@0");
+        assert!(rt; first.words == words);
+        assert_eq!(rt; first.input.as_slice(), b"{}".as_slice());
+        assert!(rt; first.answer == Ok(answer));
+        assert_eq!(rt; last.name.as_str(), "e1/n1@0");
+        assert!(rt; last.answer == Err(SpawnFault::Failed));
+    }
     Ok(())
 }
 

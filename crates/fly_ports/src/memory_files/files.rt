@@ -1,10 +1,10 @@
-ghost use Rattle.std.specs.Prelude.{◌≡◌, ◌≤◌, ◌+◌, ◌<◌, IfSome, position, bytes_eq, length, take, OnOk, OnErr, IfOk, is_ok, IsErrOf, Some, vec_len, option_map};
-ghost use Rattle.fly_ports.specs.Faults.{HasCause, CountsRead};
-ghost use Rattle.fly_ports.specs.Contents.{AppendsPart, appended, IsRead, Lacks};
-ghost use Rattle.fly_ports.specs.FilesMemory.{is_failed, content_of, grown_files, has_room, fails_read, after_read, appends_all, after_append, new_files};
+ghost use Rattle.std.specs.Prelude.{◌≡◌, ◌≤◌, ◌+◌, ◌<◌, IfSome, position, bytes_eq, length, take, OnOk, OnErr, IfOk, is_ok, vec_len, option_map};
+ghost use Rattle.fly_ports.specs.Files.{ReadsFile, AppendsToFile, FailsToAppend};
+ghost use Rattle.fly_ports.specs.MemFiles.{is_failure, content_of, files_with, has_room, files_state, fails_read, files_after_read, appends_all, files_after_append, new_files};
 
 use super::MemFile;
 use super::slot::Slot;
+use crate::room::front_past;
 use crate::{Files, ReadFault, WriteFault};
 use fly_types::{List, NoMemory};
 use std::alloc::Global;
@@ -23,27 +23,11 @@ pub struct MemFiles {
 }
 
 impl Model for MemFiles {
-    ghost use Rattle.fly_ports.specs.FilesMemory.{FilesMemory};
+    ghost use Rattle.fly_ports.specs.MemFiles.{FilesMemory};
 
     ghost Value = { FilesMemory };
 
     ghost view = { λ m. record { files = m.files.items; bad_reads = m.bad_reads; bad_appends = m.bad_appends; reads = m.reads; appends = m.appends; read_faults = m.read_faults; append_faults = m.append_faults } };
-}
-
-/// The content of the first file of this path.
-fn find<'f>(files: &'f [Slot], path: &str) -> Option<&'f [u8]>
-    ensures { option_map (λ r. r.now) result ≡ content_of files.now path.now }
-{
-    match files {
-        [] => None,
-        [first, rest @ ..] => {
-            if first.path() == path {
-                first.content()
-            } else {
-                find(rest, path)
-            }
-        }
-    }
 }
 
 /// The place of the first file of this path.
@@ -54,9 +38,19 @@ fn place_of(files: &[Slot], path: &str) -> Option<usize>
     files.iter().position(|file| file.path() == path)
 }
 
+/// The content of the first file of this path.
+fn content<'f>(files: &'f [Slot], path: &str) -> Option<&'f [u8]>
+    ensures { option_map (λ r. r.now) result ≡ content_of files.now path.now }
+{
+    match place_of(files, path) {
+        None => None,
+        Some(at) => files[at].content(),
+    }
+}
+
 /// Adds what there is room for to the first file of this path, and says whether that was all.
 fn add(files: &mut Vec<Slot>, path: &str, bytes: &[u8]) -> bool
-    ensures files { files.new.items ≡ grown_files files.old.items path.now bytes.now }
+    ensures files { files.new.items ≡ files_with files.old.items path.now bytes.now }
     ensures all { result ≡ has_room files.old.items path.now bytes.now }
 {
     match place_of(files, path) {
@@ -68,15 +62,12 @@ fn add(files: &mut Vec<Slot>, path: &str, bytes: &[u8]) -> bool
     }
 }
 
-/// The first `limit + 1` bytes of a content, or all of them where there are fewer.
-fn front_past(content: &[u8], limit: u64) -> &[u8]
-    ensures { result.now ≡ take (limit + 1) content.now }
+/// A copy of the first `limit + 1` bytes of a content.
+fn front(alloc: Global, content: &[u8], limit: u64) -> Result<Vec<u8>, NoMemory>
+    ensures bytes { IfOk result (λ bytes. bytes.items ≡ take (limit + 1) content.now) }
+    ensures bound { IfOk result (λ bytes. vec_len bytes ≤ limit + 1) }
 {
-    if limit < content.len() as u64 {
-        &content[..limit as usize + 1]
-    } else {
-        content
-    }
+    Ok(Vec::from_slice(alloc, front_past(content, limit))?)
 }
 
 impl MemFiles {
@@ -110,7 +101,7 @@ impl MemFiles {
     pub fn content(&self, path: &str) -> Option<&[u8]>
         ensures { option_map (λ r. r.now) result ≡ content_of self.now.files path.now }
     {
-        find(&self.files, path)
+        content(&self.files, path)
     }
 
     /// How many reads have failed.
@@ -129,22 +120,13 @@ impl MemFiles {
 }
 
 impl Files for MemFiles {
-    ghost contents = { λ m. Some (content_of m.files) };
-
-    ghost read_faults = { λ m. m.read_faults };
-
-    ghost append_faults = { λ m. m.append_faults };
+    ghost state = { files_state };
 
     fn read(&mut self, alloc: Global, path: &str, limit: u64) -> Result<Vec<u8>, ReadFault>
-        ensures bytes { IfOk result (λ bytes. IsRead (Some (content_of self.old.files)) path.now (limit + 1) bytes.items) }
+        ensures answer { ReadsFile (files_state self.old) (files_state self.new) path.now (limit + 1) result }
         ensures bound { IfOk result (λ bytes. vec_len bytes ≤ limit + 1) }
-        ensures absent { IsErrOf result ReadFault.Absent → Lacks (Some (content_of self.old.files)) path.now }
-        ensures contents { Some (content_of self.new.files) ≡ Some (content_of self.old.files) }
-        ensures later { self.old.read_faults ≤ self.new.read_faults }
-        ensures cause { CountsRead self.old.read_faults self.new.read_faults result }
-        ensures appends { self.new.append_faults ≡ self.old.append_faults }
-        ensures failed { is_failed result ≡ fails_read self.old }
-        ensures state { self.new ≡ after_read self.old result }
+        ensures fails { is_failure result ≡ fails_read self.old }
+        ensures after { self.new ≡ files_after_read self.old result }
     {
         let number = self.reads.saturating_add(1);
         if self.bad_reads.as_slice().contains(&number) {
@@ -152,24 +134,20 @@ impl Files for MemFiles {
             self.read_faults = self.read_faults.saturating_add(1);
             return Err(ReadFault::Failed);
         }
-        let Some(content) = find(&self.files, path) else {
+        let Some(content) = content(&self.files, path) else {
             self.reads = number;
             return Err(ReadFault::Absent);
         };
-        let Ok(bytes) = Vec::from_slice(alloc, front_past(content, limit)) else {
-            return Err(ReadFault::NoMemory);
-        };
+        let bytes = front(alloc, content, limit)?;
         self.reads = number;
         Ok(bytes)
     }
 
     fn append(&mut self, path: &str, bytes: &[u8]) -> Result<(), WriteFault>
-        ensures appended { OnOk result (Some (content_of self.new.files) ≡ appended (Some (content_of self.old.files)) path.now bytes.now) }
-        ensures partial { OnErr result (AppendsPart (Some (content_of self.old.files)) (Some (content_of self.new.files)) path.now bytes.now) }
-        ensures cause { HasCause self.old.append_faults self.new.append_faults result }
-        ensures reads { self.new.read_faults ≡ self.old.read_faults }
+        ensures ok { OnOk result (AppendsToFile (files_state self.old) (files_state self.new) path.now bytes.now) }
+        ensures err { OnErr result (FailsToAppend (files_state self.old) (files_state self.new) path.now bytes.now) }
         ensures answer { is_ok result ≡ appends_all self.old path.now bytes.now }
-        ensures state { self.new ≡ after_append self.old path.now bytes.now }
+        ensures after { self.new ≡ files_after_append self.old path.now bytes.now }
     {
         self.appends = self.appends.saturating_add(1);
         let is_bad = self.bad_appends.as_slice().contains(&self.appends);

@@ -3,7 +3,7 @@ ghost use Rattle.std.specs.Option.{option_copied};
 
 use super::MemFile;
 use crate::room::add_within;
-use fly_types::{Bytes, NoMemory, Text};
+use fly_types::{NoMemory, Text};
 use std::alloc::Global;
 use std::marker::Model;
 
@@ -28,7 +28,7 @@ impl Model for Slot {
 }
 
 impl Slot {
-    ghost use Rattle.fly_ports.specs.FilesMemory.{bytes_of, with_more};
+    ghost use Rattle.fly_ports.specs.MemFiles.{bytes_of, file_with};
 
     pub(super) fn make(alloc: Global, file: MemFile) -> Result<Slot, NoMemory>
         ensures { IfOk result (λ slot. slot ≡ file) }
@@ -38,11 +38,11 @@ impl Slot {
             content,
             room,
         } = file;
-        let mut bytes = Vec::with_capacity(alloc, room as usize)?;
-        let is_there = content.is_some();
-        if let Some(content) = content {
-            bytes.extend_from_slice(content.as_slice())?;
-        }
+        let (is_there, mut bytes) = match content {
+            Some(content) => (true, content.into_vec()),
+            None => (false, Vec::new(alloc)),
+        };
+        bytes.reserve((room as usize).saturating_sub(bytes.len()))?;
         Ok(Slot {
             path,
             is_there,
@@ -69,7 +69,7 @@ impl Slot {
 
     /// Adds what there is room for, and says whether that was all.
     pub(super) fn add(&mut self, bytes: &[u8]) -> bool
-        ensures added { self.new ≡ with_more self.old bytes.now }
+        ensures added { self.new ≡ file_with self.old bytes.now }
         ensures all { result ≡ nat_le (length bytes.now) (self.old.room - length (bytes_of self.old)) }
     {
         self.is_there = true;
