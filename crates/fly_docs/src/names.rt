@@ -1,6 +1,6 @@
 ghost use Rattle.std.specs.Prelude.{◌≡◌, IfOk};
 
-use fly_types::{NoMemory, Text};
+use fly_types::{NoMemory, Text, TryCopy};
 use std::alloc::Global;
 
 /// The node id by which a promise names an input of the workflow.
@@ -28,5 +28,11 @@ impl Identifier {
             name: self.name.copy(alloc)?,
             version: self.version.copy(alloc)?,
         })
+    }
+}
+
+impl TryCopy for Identifier {
+    fn copy(&self, alloc: Global) -> Result<Identifier, NoMemory> {
+        Identifier::copy(self, alloc)
     }
 }

@@ -1,8 +1,8 @@
 use crate::{
-    Binding, Bound, Bundle, Closure, Connections, Identifier, Interface, Node, Target, Task,
-    Workflow,
+    Binding, Bound, Bundle, Case, Closure, Connections, DatasetId, Identifier, Interface, Node,
+    Submission, Target, Task, Workflow, print_name, read_name,
 };
-use fly_types::{List, LiteralType, NoMemory, Simple, Text, Variable};
+use fly_types::{List, Literal, LiteralMap, NoMemory, Text};
 use std::alloc::Global;
 use std::test::Fail;
 
@@ -29,62 +29,77 @@ fn identifier(alloc: Global, name: &str) -> Result<Identifier, NoMemory> {
     })
 }
 
-fn interface(alloc: Global, input: &str) -> Result<Interface, NoMemory> {
-    let input = Variable {
-        name: text(alloc, input)?,
-        kind: LiteralType::Simple(Simple::Integer),
-    };
-    Ok(Interface {
-        inputs: one(alloc, input)?,
+fn interface(alloc: Global) -> Interface {
+    Interface {
+        inputs: none(alloc),
+        outputs: none(alloc),
+    }
+}
+
+fn workflow(alloc: Global) -> Result<Workflow, NoMemory> {
+    Ok(Workflow {
+        id: identifier(alloc, "w")?,
+        fail_late: true,
+        interface: interface(alloc),
+        nodes: none(alloc),
         outputs: none(alloc),
     })
 }
 
-fn task(alloc: Global) -> Result<Task, NoMemory> {
-    Ok(Task {
+#[test]
+fn a_copy_is_the_same_task(rt: HostRuntime) -> Result<(), Fail> {
+    let alloc = rt.alloc();
+    let task = Task {
         id: identifier(alloc, "inc")?,
         cached: true,
         serializable: false,
         cache_version: text(alloc, "v")?,
         timeout_ms: 1000,
         retries: 2,
-        interface: interface(alloc, "x")?,
-        command: one(alloc, text(alloc, "inc")?)?,
+        interface: interface(alloc),
+        command: none(alloc),
         args: none(alloc),
-    })
+    };
+    assert!(rt; task.copy(alloc)? == task);
+    Ok(())
 }
 
-fn node(alloc: Global) -> Result<Node, NoMemory> {
+#[test]
+fn a_copy_is_the_same_binding(rt: HostRuntime) -> Result<(), Fail> {
+    let alloc = rt.alloc();
     let binding = Binding {
         var: text(alloc, "x")?,
-        bound: Bound::Promise {
-            node: text(alloc, "start-node")?,
-            var: text(alloc, "a")?,
-        },
+        bound: Bound::Scalar(Literal::Integer(3)),
     };
-    Ok(Node {
+    assert!(rt; binding.copy(alloc)? == binding);
+    Ok(())
+}
+
+#[test]
+fn a_copy_is_the_same_case(rt: HostRuntime) -> Result<(), Fail> {
+    let alloc = rt.alloc();
+    let node = Node {
         id: text(alloc, "n0")?,
-        timeout_ms: 0,
-        retries: 0,
-        inputs: one(alloc, binding)?,
+        timeout_ms: 5,
+        retries: 1,
+        inputs: none(alloc),
         upstream: none(alloc),
-        target: Target::Task(identifier(alloc, "inc")?),
-    })
+        target: Target::Workflow(identifier(alloc, "w")?),
+    };
+    let case = Case {
+        condition: None,
+        then: node,
+    };
+    assert!(rt; case.copy(alloc)? == case);
+    Ok(())
 }
 
 #[test]
 fn a_copy_is_the_same_bundle(rt: HostRuntime) -> Result<(), Fail> {
     let alloc = rt.alloc();
-    let workflow = Workflow {
-        id: identifier(alloc, "w")?,
-        fail_late: true,
-        interface: interface(alloc, "a")?,
-        nodes: one(alloc, node(alloc)?)?,
-        outputs: none(alloc),
-    };
     let bundle = Bundle {
-        tasks: one(alloc, task(alloc)?)?,
-        workflows: one(alloc, workflow)?,
+        tasks: none(alloc),
+        workflows: one(alloc, workflow(alloc)?)?,
         primary: identifier(alloc, "w")?,
     };
     assert!(rt; bundle.copy(alloc)? == bundle);
@@ -94,23 +109,53 @@ fn a_copy_is_the_same_bundle(rt: HostRuntime) -> Result<(), Fail> {
 #[test]
 fn a_copy_is_the_same_closure(rt: HostRuntime) -> Result<(), Fail> {
     let alloc = rt.alloc();
-    let beside = (text(alloc, "n0")?, one(alloc, text(alloc, "end-node")?)?);
     let connections = Connections {
         upstream: none(alloc),
-        downstream: one(alloc, beside)?,
+        downstream: none(alloc),
     };
     let closure = Closure {
-        primary: Workflow {
-            id: identifier(alloc, "w")?,
-            fail_late: false,
-            interface: interface(alloc, "a")?,
-            nodes: one(alloc, node(alloc)?)?,
-            outputs: none(alloc),
-        },
+        primary: workflow(alloc)?,
         subs: none(alloc),
-        tasks: one(alloc, task(alloc)?)?,
+        tasks: none(alloc),
         connections: one(alloc, connections)?,
     };
     assert!(rt; closure.copy(alloc)? == closure);
+    Ok(())
+}
+
+#[test]
+fn a_copy_is_the_same_submission(rt: HostRuntime) -> Result<(), Fail> {
+    let alloc = rt.alloc();
+    let submission = Submission {
+        name: text(alloc, "e1")?,
+        inputs: LiteralMap {
+            entries: none(alloc),
+        },
+    };
+    assert!(rt; submission.copy(alloc)? == submission);
+    Ok(())
+}
+
+#[test]
+fn a_copy_is_the_same_dataset(rt: HostRuntime) -> Result<(), Fail> {
+    let alloc = rt.alloc();
+    let dataset = DatasetId {
+        project: text(alloc, "p")?,
+        domain: text(alloc, "d")?,
+        name: text(alloc, "flyte_task-inc")?,
+        version: text(alloc, "v")?,
+    };
+    assert!(rt; dataset.copy(alloc)? == dataset);
+    Ok(())
+}
+
+#[test]
+fn names_of_attempts_are_read_and_printed(rt: HostRuntime) -> Result<(), Fail> {
+    let alloc = rt.alloc();
+    for name in ["e1/n0@0", "e1/n0@2", "e1/n0/n-1#10@0"] {
+        let read = read_name(alloc, &text(alloc, name)?)?;
+        let printed = print_name(alloc, &read.copy(alloc)?)?;
+        assert!(rt; printed.as_str() == name);
+    }
     Ok(())
 }
