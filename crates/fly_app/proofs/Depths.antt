@@ -5,19 +5,20 @@ use Rattle.std.specs.Ordering.{match_ordering}
 use Rattle.serde_json.specs.Data.{Data, string, Members, no_members, member, put, depth, items_depth, members_depth}
 use Rattle.serde_json.specs.Read.{max_depth}
 use Rattle.serde_json.specs.View.{items_of}
-use Rattle.fly_types.specs.declared.literals.Variable.{Variable}
+use Rattle.fly_types.specs.declared.variable.Variable.{Variable}
 use Rattle.fly_docs.specs.declared.names.Identifier.{Identifier}
 use Rattle.fly_docs.specs.declared.interface.Interface.{Interface}
-use Rattle.fly_docs.specs.declared.interface.Bound.{Bound}
-use Rattle.fly_docs.specs.declared.interface.Bound.TheVariants.{Promise}
-use Rattle.fly_docs.specs.declared.interface.Binding.{Binding}
+use Rattle.fly_docs.specs.declared.binding.Bound.{Bound}
+use Rattle.fly_docs.specs.declared.binding.Bound.TheVariants.{Promise}
+use Rattle.fly_docs.specs.declared.binding.Binding.{Binding}
 use Rattle.fly_docs.specs.declared.task.Task.{Task}
-use Rattle.fly_docs.specs.declared.workflow.Node.{Node}
+use Rattle.fly_docs.specs.declared.node.Node.{Node}
+use Rattle.fly_docs.specs.declared.node.Target.{Target}
+use Rattle.fly_docs.specs.declared.node.Target.TheVariants as targets
 use Rattle.fly_docs.specs.declared.workflow.Workflow.{Workflow}
 use Rattle.fly_docs.specs.declared.workflow.Bundle.{Bundle}
-use Rattle.fly_docs.specs.Closures.{task_of}
 use Rattle.fly_app.specs.Json.{Fields, with_field, with_fields, message, unless_empty, optional_message, optional_text, optional_list, as_fields}
-use Rattle.fly_app.specs.Documents.{identifier_fields, variable_entry, variables_fields, variables_json, interface_fields, interface_json, reference_fields, bound_json, binding_fields, binding_json, container_fields, task_fields, task_json, task_node_fields, node_fields, node_json, workflow_fields, workflow_json, bundle_fields, bundle_json, identifier_json}
+use Rattle.fly_app.specs.Documents.{identifier_fields, variable_entry, variables_fields, variables_json, interface_fields, interface_json, reference_fields, promise_json, bound_fields, bound_json, binding_fields, binding_json, container_fields, task_fields, task_json, task_node_fields, task_node_json, node_fields, node_json, workflow_fields, workflow_json, bundle_fields, bundle_json, identifier_json}
 
 -- ---- messages
 
@@ -89,9 +90,12 @@ variables-within vs = optional_message-within (variables_fields vs) 3 (optional_
 interface-within : (i : Interface) → IsWithin 5 (interface_json i)
 interface-within i = optional_message-within (interface_fields i) 4 (variables-within i.inputs, (variables-within i.outputs, tt))
 
+promise-within : (b : Bound) → IsWithin 1 (promise_json b)
+promise-within (Promise node var) = message-within (reference_fields node var) 0 (omega arith, (omega arith, tt))
+promise-within _ = tt
+
 bound-within : (b : Bound) → depth (bound_json b) ≤ 2
-bound-within (Promise node var) =
-    message-within ((codes "promise", Some (message (reference_fields node var))) ∷ []) 1 (message-within (reference_fields node var) 0 (omega arith, (omega arith, tt)), tt)
+bound-within b = message-within (bound_fields b) 1 (promise-within b, tt)
 
 binding-within : (b : Binding) → depth (binding_json b) ≤ 3
 binding-within b = message-within (binding_fields b) 2 (omega arith, (bound-within b.bound, tt))
@@ -108,11 +112,13 @@ task-within t =
     let container = container-within t in
     message-within (task_fields t) 5 (omega arith, (interface-within t.interface, (omega arith, tt)))
 
+task_node-within : (t : Target) → IsWithin 2 (task_node_json t)
+task_node-within (targets.Task id) = message-within (task_node_fields id) 1 (identifier-within (codes "TASK") id, tt)
+task_node-within _ = tt
+
 node-within : (n : Node) → depth (node_json n) ≤ 5
 node-within n =
-    let id = identifier-within (codes "TASK") (task_of n.target) in
-    let task_node = message-within (task_node_fields n) 1 (id, tt) in
-    message-within (node_fields n) 4 (omega arith, (bindings-within n.inputs, (omega arith, tt)))
+    message-within (node_fields n) 4 (omega arith, (bindings-within n.inputs, (within-more _ 2 4 (omega arith) (task_node-within n.target), tt)))
 
 workflow-within : (w : Workflow) → depth (workflow_json w) ≤ 7
 workflow-within w =

@@ -1,33 +1,33 @@
 -- What is known of a file from its first bytes.
-use Rattle.std.proofs.Common.{◌≡◌, ◌≢◌, ℕ, ◌+◌, ◌<◌, ◌≤◌, List, length, take, Option, None, Some, option_map, IfSome, Result, Ok, Err, IfOk, IfErr, Vec, Global, ap, refl, sym, ◌∙◌, arith}
+use Rattle.std.proofs.Common.{◌≡◌, ◌≢◌, ℕ, ◌+◌, ◌<◌, ◌≤◌, List, length, take, Option, None, Some, option_map, IfSome, Result, Ok, Err, Vec, Global, ap, refl, sym, ◌∙◌, arith}
 use Rattle.std.proofs.lemmas.List.{length-take, take_all}
-use Rattle.fly_ports.specs.Contents.{Contents}
+use Rattle.fly_ports.specs.Files.{Contents, FilesState}
 use Rattle.fly_app.specs.Reading.{document_limit, FirstFault}
 use Rattle.fly_app.specs.declared.faults.DocKind.{DocKind}
 use Rattle.fly_app.specs.declared.faults.DocKind.TheVariants as kinds
-use Rattle.fly_app.specs.Answers.{IsContent, HasClosure, HasFault}
-use Rattle.fly_app.specs.declared.closure_of_file.Stop.{Stop}
-use Rattle.fly_app.specs.declared.closure_of_file.Stop.TheVariants as stops
+use Rattle.fly_app.specs.Commands.{IsContent, HasClosure, HasFault}
+use Rattle.fly_app.specs.declared.closure_of_file.ClosureFault.{ClosureFault}
+use Rattle.fly_app.specs.declared.closure_of_file.ClosureFault.TheVariants as faults
 use Rattle.fly_app.proofs.SingleTaskTyped.{typed-single_task, acyclic-single_task}
-use Rattle.fly_app.specs.Stops.{HasText, StopsReading, StopsAt}
+use Rattle.fly_app.specs.ClosureOfFile.{HasText, CompilesBytes, CompilesFile}
 
 -- the first bytes of a file, where there is one
 abbrev first_bytes : ℕ → Option (List ℕ) → Option (List ℕ)
 first_bytes n file = option_map (λ f. take n f) file
 
--- what is read, as the files tell it
+-- these bytes are read, where contents are told
 abbrev pub IsReadUpTo : Option Contents → List ℕ → ℕ → List ℕ → Type 0
-IsReadUpTo told path n bytes = IfSome told (λ held. first_bytes (n + 1) (held path) ≡ Some bytes)
+IsReadUpTo contents path n bytes = IfSome contents (λ held. first_bytes (n + 1) (held path) ≡ Some bytes)
 
-taken_whole : (n : ℕ) (file bytes : List ℕ) → take (n + 1) file ≡ bytes → length bytes ≤ n → file ≡ bytes
-taken_whole n file bytes is few =
+whole_if_short : (n : ℕ) (file bytes : List ℕ) → take (n + 1) file ≡ bytes → length bytes ≤ n → file ≡ bytes
+whole_if_short n file bytes is few =
     let long : length file ≤ n + 1 = omega (arith, few, ap length is, length-take (n + 1) file) in
     sym (take_all (n + 1) file long) ∙ is
 
 -- fewer bytes than were asked for are the whole file
 whole_file : (n : ℕ) (file : Option (List ℕ)) (bytes : List ℕ) → first_bytes (n + 1) file ≡ Some bytes → length bytes ≤ n → file ≡ Some bytes
 whole_file n None bytes is few = absurd (cc is)
-whole_file n (Some file) bytes is few = ap Some (taken_whole n file bytes (cc is) few)
+whole_file n (Some file) bytes is few = ap Some (whole_if_short n file bytes (cc is) few)
 
 -- of a longer file all that was asked for is read
 longer_file : (n : ℕ) (file : Option (List ℕ)) (bytes : List ℕ) → first_bytes (n + 1) file ≡ Some bytes → n < length bytes → (f : List ℕ) × (file ≡ Some f) × (n < length f)
@@ -37,19 +37,19 @@ longer_file n (Some file) bytes is many =
     let long : n < length file = omega (arith, many, ap length e, length-take (n + 1) file) in
     (file, refl, long)
 
-pub whole : (n : ℕ) (told : Option Contents) (path bytes : List ℕ) → IsReadUpTo told path n bytes → length bytes ≤ n → IsContent told path bytes
+pub whole : (n : ℕ) (contents : Option Contents) (path bytes : List ℕ) → IsReadUpTo contents path n bytes → length bytes ≤ n → IsContent contents path bytes
 whole n None path bytes is few = tt
 whole n (Some held) path bytes is few = whole_file n (held path) bytes is few
 
-pub longer : (n : ℕ) (told : Option Contents) (path bytes : List ℕ) → IsReadUpTo told path n bytes → n < length bytes → (f : List ℕ) × IsContent told path f × (n < length f)
+pub longer : (n : ℕ) (contents : Option Contents) (path bytes : List ℕ) → IsReadUpTo contents path n bytes → n < length bytes → (f : List ℕ) × IsContent contents path f × (n < length f)
 longer n None path bytes is many = (bytes, tt, many)
 longer n (Some held) path bytes is many = longer_file n (held path) bytes is many
 
 -- the closure's text of the bytes that were read is the file's
-pub text_of_file : (told : Option Contents) (path bytes text : List ℕ) → IsReadUpTo told path document_limit bytes → HasText bytes text → HasClosure told path text
-text_of_file told path bytes text is has = record {
+pub text_of_file : (contents : Option Contents) (path bytes text : List ℕ) → IsReadUpTo contents path document_limit bytes → HasText bytes text → HasClosure contents path text
+text_of_file contents path bytes text is has = record {
   file = bytes;
-  content = whole document_limit told path bytes is has.reads.within;
+  content = whole document_limit contents path bytes is has.reads.within;
   bundle = has.bundle;
   reads = has.reads;
   typed = typed-single_task has.bundle has.reads.form;
@@ -60,37 +60,28 @@ text_of_file told path bytes text is has = record {
 }
 
 -- the first fault of the bytes that were read is the file's
-pub fault_of_file : (told : Option Contents) (path bytes : List ℕ) (kind : DocKind) → IsReadUpTo told path document_limit bytes → FirstFault bytes kind → kind ≢ kinds.NoMemory → HasFault told path kind
-fault_of_file told path bytes kinds.TooLarge is fault known =
-    let found = longer document_limit told path bytes is fault in
+pub fault_of_file : (contents : Option Contents) (path bytes : List ℕ) (kind : DocKind) → IsReadUpTo contents path document_limit bytes → FirstFault bytes kind → kind ≢ kinds.NoMemory → HasFault contents path kind
+fault_of_file contents path bytes kinds.TooLarge is fault known =
+    let found = longer document_limit contents path bytes is fault in
     record { file = found.0; content = found.1; fault = found.2; known = known }
-fault_of_file told path bytes kinds.NotJson is fault known = record {
+fault_of_file contents path bytes kinds.NotJson is fault known = record {
   file = bytes;
-  content = whole document_limit told path bytes is fault.0;
+  content = whole document_limit contents path bytes is fault.0;
   fault = fault;
   known = known;
 }
-fault_of_file told path bytes kinds.NotBuilt is fault known = record {
+fault_of_file contents path bytes kinds.NotBuilt is fault known = record {
   file = bytes;
-  content = whole document_limit told path bytes is fault.0;
+  content = whole document_limit contents path bytes is fault.0;
   fault = fault;
   known = known;
 }
-fault_of_file told path bytes kinds.NoMemory is fault known = absurd (known refl)
+fault_of_file contents path bytes kinds.NoMemory is fault known = absurd (known refl)
 
--- ---- the same, of what a call answered
-
-pub answered_text : (told : Option Contents) (path bytes : List ℕ) (r : Result (Vec ℕ Global) Stop) → IsReadUpTo told path document_limit bytes
-    → IfOk r (λ text. HasText bytes text.items) → IfOk r (λ text. HasClosure told path text.items)
-answered_text told path bytes (Ok text) is has = text_of_file told path bytes text.items is has
-answered_text told path bytes (Err stop) is has = tt
-
-stopped_at : (told : Option Contents) (path bytes : List ℕ) (before now : ℕ) (stop : Stop) → IsReadUpTo told path document_limit bytes → StopsReading bytes stop → StopsAt told path before now stop
-stopped_at told path bytes before now (stops.Refused kind) is why = fault_of_file told path bytes kind is why.0 why.1
-stopped_at told path bytes before now stops.Unread is why = absurd why
-stopped_at told path bytes before now stops.NoMemory is why = tt
-
-pub answered_stop : (told : Option Contents) (path bytes : List ℕ) (before now : ℕ) (r : Result (Vec ℕ Global) Stop) → IsReadUpTo told path document_limit bytes
-    → IfErr r (StopsReading bytes) → IfErr r (StopsAt told path before now)
-answered_stop told path bytes before now (Ok text) is why = tt
-answered_stop told path bytes before now (Err stop) is why = stopped_at told path bytes before now stop is why
+-- what compiling the first bytes of a file answers, compiling the file does
+pub compiles_file : (old new : FilesState) (path bytes : List ℕ) (r : Result (Vec ℕ Global) ClosureFault) → new ≡ old → IsReadUpTo old.contents path document_limit bytes
+    → CompilesBytes bytes r → CompilesFile old new path r
+compiles_file old new path bytes (Ok text) same is has = (text_of_file old.contents path bytes text.items is has, same)
+compiles_file old new path bytes (Err (faults.Refused kind)) same is why = (fault_of_file old.contents path bytes kind is why.0 why.1, same)
+compiles_file old new path bytes (Err faults.Unread) same is why = absurd why
+compiles_file old new path bytes (Err faults.NoMemory) same is why = same

@@ -6,21 +6,22 @@ use Rattle.std.specs.Cmp.Lexicographic.{slice_cmp}
 use Rattle.serde_json.specs.Data.{Data, string, Members, no_members, member, put}
 use Rattle.serde_json.specs.Written.{has_float, items_have_float, members_have_float}
 use Rattle.serde_json.specs.View.{items_of}
-use Rattle.fly_types.specs.declared.literals.Variable.{Variable}
+use Rattle.fly_types.specs.declared.variable.Variable.{Variable}
 use Rattle.fly_docs.specs.declared.names.Identifier.{Identifier}
 use Rattle.fly_docs.specs.declared.interface.Interface.{Interface}
-use Rattle.fly_docs.specs.declared.interface.Bound.{Bound}
-use Rattle.fly_docs.specs.declared.interface.Bound.TheVariants.{Promise}
-use Rattle.fly_docs.specs.declared.interface.Binding.{Binding}
+use Rattle.fly_docs.specs.declared.binding.Bound.{Bound}
+use Rattle.fly_docs.specs.declared.binding.Bound.TheVariants.{Promise}
+use Rattle.fly_docs.specs.declared.binding.Binding.{Binding}
 use Rattle.fly_docs.specs.declared.task.Task.{Task}
-use Rattle.fly_docs.specs.declared.workflow.Node.{Node}
+use Rattle.fly_docs.specs.declared.node.Node.{Node}
+use Rattle.fly_docs.specs.declared.node.Target.{Target}
+use Rattle.fly_docs.specs.declared.node.Target.TheVariants as targets
 use Rattle.fly_docs.specs.declared.workflow.Workflow.{Workflow}
 use Rattle.fly_docs.specs.declared.workflow.Bundle.{Bundle}
 use Rattle.fly_docs.specs.declared.closure.Connections.{Connections}
 use Rattle.fly_docs.specs.declared.closure.Closure.{Closure}
-use Rattle.fly_docs.specs.Closures.{task_of}
 use Rattle.fly_app.specs.Json.{with_field, with_fields, message, unless_empty, optional_message, optional_text, optional_list, optional_map, as_fields}
-use Rattle.fly_app.specs.Documents.{identifier_fields, variable_entry, variables_fields, interface_fields, binding_fields, container_fields, task_fields, task_node_fields, node_fields, workflow_fields, bundle_fields, id_list_fields, connections_fields, compiled_workflow_fields, compiled_task_fields, closure_fields, identifier_json, variables_json, interface_json, bound_json, binding_json, task_json, node_json, workflow_json, bundle_json, id_list_entry, connections_json, compiled_workflow_json, compiled_task_json, closure_json}
+use Rattle.fly_app.specs.Documents.{identifier_fields, variable_entry, variables_fields, interface_fields, bound_fields, binding_fields, container_fields, task_fields, task_node_fields, node_fields, workflow_fields, bundle_fields, id_list_fields, connections_fields, compiled_workflow_fields, compiled_task_fields, closure_fields, identifier_json, variables_json, interface_json, promise_json, bound_json, binding_json, task_json, task_node_json, node_json, workflow_json, bundle_json, id_list_entry, connections_json, compiled_workflow_json, compiled_task_json, closure_json}
 
 -- ---- messages
 
@@ -110,8 +111,12 @@ variables-no_float vs = optional_message-no_float (variables_fields vs) (map-no_
 interface-no_float : (i : Interface) → HasNoFloat (interface_json i)
 interface-no_float i = optional_message-no_float (interface_fields i) (variables-no_float i.inputs, (variables-no_float i.outputs, tt))
 
+promise-no_float : (b : Bound) → HasNoFloat (promise_json b)
+promise-no_float (Promise node var) = refl
+promise-no_float _ = tt
+
 bound-no_float : (b : Bound) → has_float (bound_json b) ≡ false
-bound-no_float (Promise node var) = refl
+bound-no_float b = message-no_float (bound_fields b) (promise-no_float b, tt)
 
 binding-no_float : (b : Binding) → has_float (binding_json b) ≡ false
 binding-no_float b = message-no_float (binding_fields b) (refl, (bound-no_float b.bound, tt))
@@ -120,9 +125,13 @@ task-no_float : (t : Task) → has_float (task_json t) ≡ false
 task-no_float t =
     message-no_float (task_fields t) (identifier-no_float (codes "TASK") t.id, (interface-no_float t.interface, (message-no_float (container_fields t) (list-no_float string (λ _. refl) t.command, tt), tt)))
 
+task_node-no_float : (t : Target) → HasNoFloat (task_node_json t)
+task_node-no_float (targets.Task id) = message-no_float (task_node_fields id) (identifier-no_float (codes "TASK") id, tt)
+task_node-no_float _ = tt
+
 node-no_float : (n : Node) → has_float (node_json n) ≡ false
 node-no_float n =
-    message-no_float (node_fields n) (refl, (list-no_float binding_json binding-no_float n.inputs, (message-no_float (task_node_fields n) (identifier-no_float (codes "TASK") (task_of n.target), tt), tt)))
+    message-no_float (node_fields n) (refl, (list-no_float binding_json binding-no_float n.inputs, (task_node-no_float n.target, tt)))
 
 workflow-no_float : (w : Workflow) → has_float (workflow_json w) ≡ false
 workflow-no_float w =

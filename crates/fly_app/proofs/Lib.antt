@@ -1,12 +1,13 @@
 mod Closed
-mod CommandLines
+mod OneTask
+mod WordsLemmas
 mod FileReads
 mod Floats
 mod Messages
 mod Candidates
 mod Orders
 mod Sorting
-mod Telling
+mod CommandLemmas
 mod RoundTrip
 mod Depths
 mod Documented

@@ -13,7 +13,7 @@ use Rattle.std.specs.Cmp.Lexicographic.{slice_cmp, pointwise, nat_list_eq_equiv}
 use Rattle.std.specs.List.{All, Contains, AllWithin}
 use Rattle.std.specs.List.Sorted.{IsSortedBy, IsBinarySearchResult, IsSearchInRange}
 use Rattle.std.specs.Ordering.{ordering_reverse}
-use Rattle.fly_types.specs.declared.literals.Variable.{Variable}
+use Rattle.fly_types.specs.declared.variable.Variable.{Variable}
 use Rattle.fly_types.specs.declared.kinds.LiteralType.TheVariants as types
 use Rattle.fly_types.specs.declared.kinds.Simple.TheVariants as simple
 use Rattle.fly_docs.specs.Names.{IsId}

@@ -1,5 +1,5 @@
 -- A bundle of the form is the candidate of its own JSON.
-use Rattle.std.proofs.Common.{◌≡◌, ℕ, Bool, true, false, cond, Ordering, Less, Greater, List, [], ◌∷◌, ◌++◌, map, Option, Some, None, nat_cmp, codes, refl, sym, ap, ◌∙◌, append_assoc}
+use Rattle.std.proofs.Common.{◌≡◌, ℕ, Bool, true, false, cond, Ordering, Less, Greater, List, [], ◌∷◌, ◌++◌, map, Option, Some, None, All, nat_cmp, codes, refl, sym, ap, ◌∙◌, append_assoc}
 use Rattle.std.proofs.lemmas.List.{append-nil}
 use Rattle.std.proofs.lemmas.List.Elements.{recursion_from_All}
 use Rattle.std.proofs.lemmas.Cmp.{nat_list_cmp_total}
@@ -16,23 +16,22 @@ use Rattle.serde_json.specs.View.{items_of}
 use Rattle.serde_json.proofs.Views.{get_member-put, get_member-put_other}
 use Rattle.fly_types.specs.declared.kinds.LiteralType.TheVariants as types
 use Rattle.fly_types.specs.declared.kinds.Simple.TheVariants as simple
-use Rattle.fly_types.specs.declared.literals.Variable.{Variable}
+use Rattle.fly_types.specs.declared.variable.Variable.{Variable}
 use Rattle.fly_docs.specs.declared.names.Identifier.{Identifier}
 use Rattle.fly_docs.specs.declared.interface.Interface.{Interface}
-use Rattle.fly_docs.specs.declared.interface.Bound.{Bound}
-use Rattle.fly_docs.specs.declared.interface.Bound.TheVariants.{Promise}
-use Rattle.fly_docs.specs.declared.interface.Binding.{Binding}
+use Rattle.fly_docs.specs.declared.binding.Bound.{Bound}
+use Rattle.fly_docs.specs.declared.binding.Bound.TheVariants.{Promise}
+use Rattle.fly_docs.specs.declared.binding.Binding.{Binding}
 use Rattle.fly_docs.specs.declared.task.Task.{Task}
-use Rattle.fly_docs.specs.declared.workflow.Target.{Target}
-use Rattle.fly_docs.specs.declared.workflow.Target.TheVariants as targets
-use Rattle.fly_docs.specs.declared.workflow.Node.{Node}
+use Rattle.fly_docs.specs.declared.node.Target.TheVariants as targets
+use Rattle.fly_docs.specs.declared.node.Node.{Node}
 use Rattle.fly_docs.specs.declared.workflow.Workflow.{Workflow}
 use Rattle.fly_docs.specs.declared.workflow.Bundle.{Bundle}
+use Rattle.fly_docs.specs.Names.{start_node}
 use Rattle.fly_docs.specs.Interfaces.{names_of}
-use Rattle.fly_docs.specs.Closures.{task_of}
 use Rattle.fly_app.specs.Json.{Fields, with_field, with_fields, message, unless_empty, optional_message, optional_text, optional_list, optional_map, as_fields}
-use Rattle.fly_app.specs.Documents.{identifier_fields, variable_json, variable_entry, variables_fields, variables_json, interface_fields, interface_json, reference_fields, bound_json, binding_fields, binding_json, container_fields, task_fields, task_json, task_node_fields, node_fields, node_json, workflow_fields, workflow_json, bundle_fields, bundle_json, identifier_json}
-use Rattle.fly_app.specs.SingleTask.{AreIntegers, IsIntegerInterface, IsPlainTask, IsPlainNode, RunsOneTask}
+use Rattle.fly_app.specs.Documents.{identifier_fields, variable_json, variable_entry, variables_fields, variables_json, interface_fields, interface_json, reference_fields, bound_fields, bound_json, binding_fields, binding_json, container_fields, task_fields, task_json, task_node_fields, task_node_json, node_fields, node_json, workflow_fields, workflow_json, bundle_fields, bundle_json, identifier_json}
+use Rattle.fly_app.specs.SingleTask.{AreIntegers, IsIntegerInterface, IsPlainTask, IsPlainNode, IsPromisedBy, RunsOneTask}
 use Rattle.fly_app.specs.Candidate.{field, text_from, listed, list_from, names_in, keys_from, identifier_from, integer_named, variables_from, interface_from, bound_from, binding_from, task_from, node_from, workflow_from, bundle_from}
 
 -- ---- the fields of a message
@@ -173,24 +172,35 @@ interface_back i h =
     let outputs : variables_from (field (codes "outputs") (interface_json i)) ≡ i.outputs = ap variables_from (field-message (codes "outputs") (interface_fields i)) ∙ variables_back i.outputs h.outputs in
     λ j. record { inputs = inputs j; outputs = outputs j }
 
-bound_back : (b : Bound) → bound_from (Some (bound_json b)) ≡ b
+-- a promise of some node
+abbrev IsPromise : Bound → Type 0
+IsPromise b = (node : List ℕ) × IsPromisedBy node b
+
+bound_back : (b : Bound) → IsPromise b → bound_from (Some (bound_json b)) ≡ b
 unfolding found beside
-bound_back (Promise node var) =
+bound_back (Promise node var) h =
     let fs = reference_fields node var in
-    let promise : field (codes "promise") (Some (bound_json (Promise node var))) ≡ Some (message fs) = get-message (codes "promise") ((codes "promise", Some (message fs)) ∷ []) in
+    let promise : field (codes "promise") (Some (bound_json (Promise node var))) ≡ Some (message fs) = get-message (codes "promise") (bound_fields (Promise node var)) in
     let from : text_from (field (codes "nodeId") (Some (message fs))) ≡ node = ap text_from (get-message (codes "nodeId") fs) in
     let of : text_from (field (codes "var") (Some (message fs))) ≡ var = ap text_from (get-message (codes "var") fs) in
     ap (λ p. Promise (text_from (field (codes "nodeId") p)) (text_from (field (codes "var") p))) promise ∙ (λ j. Promise (from j) (of j))
+bound_back _ h = absurd h.1
 
-binding_back : (b : Binding) → binding_from (binding_json b) ≡ b
+binding_back : (b : Binding) → IsPromise b.bound → binding_from (binding_json b) ≡ b
 unfolding found beside
-binding_back b =
+binding_back b h =
     let var : text_from (get (codes "var") (binding_json b)) ≡ b.var = ap text_from (get-message (codes "var") (binding_fields b)) in
-    let bound : bound_from (get (codes "binding") (binding_json b)) ≡ b.bound = ap bound_from (get-message (codes "binding") (binding_fields b)) ∙ bound_back b.bound in
+    let bound : bound_from (get (codes "binding") (binding_json b)) ≡ b.bound = ap bound_from (get-message (codes "binding") (binding_fields b)) ∙ bound_back b.bound h in
     λ j. record { var = var j; bound = bound j }
 
-bindings_back : (bs : List Binding) → list_from binding_from (optional_list (map binding_json bs)) ≡ bs
-bindings_back bs = list_back binding_from binding_json bs (always _ binding_back bs)
+each_back : (node : List ℕ) (bs : List Binding) → AllByRecursion (λ (b : Binding). IsPromisedBy node b.bound) bs
+    → AllByRecursion (λ b. binding_from (binding_json b) ≡ b) bs
+each_back node [] h = tt
+each_back node (b ∷ bs) h = (binding_back b (node, h.0), each_back node bs h.1)
+
+bindings_back : (node : List ℕ) (bs : List Binding) → All (λ (b : Binding). IsPromisedBy node b.bound) bs
+    → list_from binding_from (optional_list (map binding_json bs)) ≡ bs
+bindings_back node bs h = list_back binding_from binding_json bs (each_back node bs (recursion_from_All _ bs h))
 
 task_back : (t : Task) → IsPlainTask t → task_from (task_json t) ≡ t
 unfolding found beside
@@ -221,19 +231,17 @@ task_back t h =
       args = args j;
     }
 
-target_back : (t : Target) → targets.Task (task_of t) ≡ t
-target_back (targets.Task id) = refl
-
-node_back : (n : Node) → IsPlainNode n → node_from (node_json n) ≡ n
+node_back : (n : Node) (t : Identifier) (node : List ℕ) → IsPlainNode n → n.target ≡ targets.Task t → All (λ (b : Binding). IsPromisedBy node b.bound) n.inputs
+    → node_from (node_json n) ≡ n
 unfolding found beside
-node_back n h =
+node_back n t node h runs promised =
     let fs = node_fields n in
     let id : text_from (get (codes "id") (node_json n)) ≡ n.id = ap text_from (get-message (codes "id") fs) in
-    let inputs : list_from binding_from (get (codes "inputs") (node_json n)) ≡ n.inputs = ap (list_from binding_from) (get-message (codes "inputs") fs) ∙ bindings_back n.inputs in
-    let task_node : get (codes "taskNode") (node_json n) ≡ Some (message (task_node_fields n)) = get-message (codes "taskNode") fs in
-    let task : identifier_from (field (codes "referenceId") (get (codes "taskNode") (node_json n))) ≡ task_of n.target =
-    ap (λ c. identifier_from (field (codes "referenceId") c)) task_node ∙ ap identifier_from (get-message (codes "referenceId") (task_node_fields n)) ∙ identifier_back (codes "TASK") (task_of n.target) in
-    let target = ap targets.Task task ∙ target_back n.target in
+    let inputs : list_from binding_from (get (codes "inputs") (node_json n)) ≡ n.inputs = ap (list_from binding_from) (get-message (codes "inputs") fs) ∙ bindings_back node n.inputs promised in
+    let task_node : get (codes "taskNode") (node_json n) ≡ Some (message (task_node_fields t)) = get-message (codes "taskNode") fs ∙ ap task_node_json runs in
+    let task : identifier_from (field (codes "referenceId") (get (codes "taskNode") (node_json n))) ≡ t =
+    ap (λ c. identifier_from (field (codes "referenceId") c)) task_node ∙ ap identifier_from (get-message (codes "referenceId") (task_node_fields t)) ∙ identifier_back (codes "TASK") t in
+    let target = ap targets.Task task ∙ sym runs in
     let timeout = sym h.timeout in
     let retries = sym h.retries in
     let upstream = sym h.upstream in
@@ -245,11 +253,11 @@ unfolding found beside
 bundle_back b t w n h =
     let fs = bundle_fields b in
     let ws = workflow_fields w in
-    let ns : list_from node_from (optional_list (map node_json w.nodes)) ≡ w.nodes = list_back node_from node_json w.nodes (rw h.nodes (node_back n h.node, tt)) in
+    let ns : list_from node_from (optional_list (map node_json w.nodes)) ≡ w.nodes = list_back node_from node_json w.nodes (rw h.nodes (node_back n t.id start_node h.node h.target h.inputs.promised, tt)) in
     let w-id : identifier_from (get (codes "id") (workflow_json w)) ≡ w.id = ap identifier_from (get-message (codes "id") ws) ∙ identifier_back (codes "WORKFLOW") w.id in
     let w-interface : interface_from (get (codes "interface") (workflow_json w)) ≡ w.interface = ap interface_from (get-message (codes "interface") ws) ∙ interface_back w.interface h.interface in
     let w-nodes : list_from node_from (get (codes "nodes") (workflow_json w)) ≡ w.nodes = ap (list_from node_from) (get-message (codes "nodes") ws) ∙ ns in
-    let w-outputs : list_from binding_from (get (codes "outputs") (workflow_json w)) ≡ w.outputs = ap (list_from binding_from) (get-message (codes "outputs") ws) ∙ bindings_back w.outputs in
+    let w-outputs : list_from binding_from (get (codes "outputs") (workflow_json w)) ≡ w.outputs = ap (list_from binding_from) (get-message (codes "outputs") ws) ∙ bindings_back n.id w.outputs h.outputs.promised in
     let at_once = sym h.fails_at_once in
     let workflow : workflow_from (workflow_json w) ≡ w = λ j. record { id = w-id j; fail_late = at_once j; interface = w-interface j; nodes = w-nodes j; outputs = w-outputs j } in
     let tasks : list_from task_from (get (codes "tasks") (bundle_json b)) ≡ b.tasks =

@@ -4,15 +4,15 @@ use Rattle.serde_json.specs.Data.{Data, Items, no_items, item, Members, no_membe
 use Rattle.serde_json.specs.Find.{get, as_str, as_array, as_object}
 use Rattle.fly_types.specs.declared.kinds.LiteralType.TheVariants as types
 use Rattle.fly_types.specs.declared.kinds.Simple.TheVariants as simple
-use Rattle.fly_types.specs.declared.literals.Variable.{Variable}
+use Rattle.fly_types.specs.declared.variable.Variable.{Variable}
 use Rattle.fly_docs.specs.declared.names.Identifier.{Identifier}
 use Rattle.fly_docs.specs.declared.interface.Interface.{Interface}
-use Rattle.fly_docs.specs.declared.interface.Bound.{Bound}
-use Rattle.fly_docs.specs.declared.interface.Bound.TheVariants.{Promise}
-use Rattle.fly_docs.specs.declared.interface.Binding.{Binding}
+use Rattle.fly_docs.specs.declared.binding.Bound.{Bound}
+use Rattle.fly_docs.specs.declared.binding.Bound.TheVariants.{Promise}
+use Rattle.fly_docs.specs.declared.binding.Binding.{Binding}
 use Rattle.fly_docs.specs.declared.task.Task.{Task}
-use Rattle.fly_docs.specs.declared.workflow.Target.TheVariants as targets
-use Rattle.fly_docs.specs.declared.workflow.Node.{Node}
+use Rattle.fly_docs.specs.declared.node.Target.TheVariants as targets
+use Rattle.fly_docs.specs.declared.node.Node.{Node}
 use Rattle.fly_docs.specs.declared.workflow.Workflow.{Workflow}
 use Rattle.fly_docs.specs.declared.workflow.Bundle.{Bundle}
 

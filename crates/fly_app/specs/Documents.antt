@@ -1,23 +1,24 @@
 -- The JSON of bundles of one task and of their closures, by the messages of flyteidl core (`core/tasks.proto`, `workflow.proto`,
 -- `interface.proto`, `literals.proto`, `compiler.proto`). All variables are INTEGER there, and metadata, arguments and upstream ids are at
--- their defaults, so their fields are left out.
-use Rattle.std.specs.Prelude.{ℕ, List, [], ◌∷◌, map, drop, slice_get, Option, option_map, Some, codes}
+-- their defaults, so their fields are left out. What is bound is a promise there, and what a node runs is a task; nothing else is written.
+use Rattle.std.specs.Prelude.{ℕ, List, [], ◌∷◌, map, drop, slice_get, Option, option_map, None, Some, codes}
 use Rattle.std.specs.List.{zip}
 use Rattle.serde_json.specs.Written.{compact_text}
 use Rattle.serde_json.specs.Data.{Data, string}
-use Rattle.fly_types.specs.declared.literals.Variable.{Variable}
+use Rattle.fly_types.specs.declared.variable.Variable.{Variable}
 use Rattle.fly_docs.specs.declared.names.Identifier.{Identifier}
 use Rattle.fly_docs.specs.declared.interface.Interface.{Interface}
-use Rattle.fly_docs.specs.declared.interface.Bound.{Bound}
-use Rattle.fly_docs.specs.declared.interface.Bound.TheVariants.{Promise}
-use Rattle.fly_docs.specs.declared.interface.Binding.{Binding}
+use Rattle.fly_docs.specs.declared.binding.Bound.{Bound}
+use Rattle.fly_docs.specs.declared.binding.Bound.TheVariants.{Promise}
+use Rattle.fly_docs.specs.declared.binding.Binding.{Binding}
 use Rattle.fly_docs.specs.declared.task.Task.{Task}
-use Rattle.fly_docs.specs.declared.workflow.Node.{Node}
+use Rattle.fly_docs.specs.declared.node.Node.{Node}
+use Rattle.fly_docs.specs.declared.node.Target.{Target}
+use Rattle.fly_docs.specs.declared.node.Target.TheVariants as targets
 use Rattle.fly_docs.specs.declared.workflow.Workflow.{Workflow}
 use Rattle.fly_docs.specs.declared.workflow.Bundle.{Bundle}
 use Rattle.fly_docs.specs.declared.closure.Connections.{Connections}
 use Rattle.fly_docs.specs.declared.closure.Closure.{Closure}
-use Rattle.fly_docs.specs.Closures.{task_of}
 use Rattle.fly_app.specs.Json.{Fields, message, optional_message, optional_text, optional_list, optional_map}
 
 -- Identifier, with the resource type that its place gives it
@@ -67,9 +68,17 @@ reference_fields node var =
     (codes "nodeId", Some (string node)) ∷
     (codes "var", Some (string var)) ∷ []
 
+-- the promise, where one is bound
+abbrev pub promise_json : Bound → Option Data
+promise_json (Promise node var) = Some (message (reference_fields node var))
+promise_json _ = None
+
 -- BindingData
+abbrev pub bound_fields : Bound → Fields
+bound_fields b = (codes "promise", promise_json b) ∷ []
+
 abbrev pub bound_json : Bound → Data
-bound_json (Promise node var) = message ((codes "promise", Some (message (reference_fields node var))) ∷ [])
+bound_json b = message (bound_fields b)
 
 -- Binding
 abbrev pub binding_fields : Binding → Fields
@@ -95,15 +104,20 @@ abbrev pub task_json : Task → Data
 task_json t = message (task_fields t)
 
 -- TaskNode
-abbrev pub task_node_fields : Node → Fields
-task_node_fields n = (codes "referenceId", Some (task_id_json (task_of n.target))) ∷ []
+abbrev pub task_node_fields : Identifier → Fields
+task_node_fields task = (codes "referenceId", Some (task_id_json task)) ∷ []
+
+-- the task, where the node runs one
+abbrev pub task_node_json : Target → Option Data
+task_node_json (targets.Task task) = Some (message (task_node_fields task))
+task_node_json _ = None
 
 -- Node
 abbrev pub node_fields : Node → Fields
 node_fields n =
     (codes "id", Some (string n.id)) ∷
     (codes "inputs", optional_list (map binding_json n.inputs)) ∷
-    (codes "taskNode", Some (message (task_node_fields n))) ∷ []
+    (codes "taskNode", task_node_json n.target) ∷ []
 
 abbrev pub node_json : Node → Data
 node_json n = message (node_fields n)

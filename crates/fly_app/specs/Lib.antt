@@ -3,7 +3,8 @@ pub mod Documents
 pub mod SingleTask
 pub mod SingleTaskClosure
 pub mod Reading
+pub mod Words
+pub mod Printing
 pub mod Commands
-pub mod Answers
-pub mod Stops
+pub mod ClosureOfFile
 pub mod Candidate

@@ -3,17 +3,20 @@ use Rattle.std.specs.Prelude.{◌≡◌, ◌≢◌, ℕ, List, [], ◌∷◌, �
 use Rattle.std.specs.List.Sorted.{IsPermutation}
 use Rattle.fly_types.specs.declared.kinds.LiteralType.TheVariants as types
 use Rattle.fly_types.specs.declared.kinds.Simple.TheVariants as simple
-use Rattle.fly_types.specs.declared.literals.Variable.{Variable}
+use Rattle.fly_types.specs.declared.variable.Variable.{Variable}
 use Rattle.fly_docs.specs.declared.interface.Interface.{Interface}
-use Rattle.fly_docs.specs.declared.interface.Binding.{Binding}
+use Rattle.fly_docs.specs.declared.binding.Binding.{Binding}
+use Rattle.fly_docs.specs.declared.binding.Bound.{Bound}
+use Rattle.fly_docs.specs.declared.binding.Bound.TheVariants.{Promise}
 use Rattle.fly_docs.specs.declared.task.Task.{Task}
-use Rattle.fly_docs.specs.declared.workflow.Node.{Node}
+use Rattle.fly_docs.specs.declared.node.Node.{Node}
+use Rattle.fly_docs.specs.declared.node.Target.TheVariants as targets
 use Rattle.fly_docs.specs.declared.workflow.Workflow.{Workflow}
 use Rattle.fly_docs.specs.declared.workflow.Bundle.{Bundle}
 use Rattle.fly_docs.specs.Names.{IsId, IsIdentifier, start_node, end_node}
-use Rattle.fly_docs.specs.Interfaces.{names_of, bound_names, AreInOrder, promised_node, promised_var}
+use Rattle.fly_docs.specs.Interfaces.{names_of, bound_names, AreInOrder}
 use Rattle.fly_docs.specs.declared.closure.Closure.{Closure}
-use Rattle.fly_docs.specs.Closures.{task_of, closure_of}
+use Rattle.fly_docs.specs.Closures.{closure_of}
 
 -- a text that a template of an input could stand in
 abbrev pub HasTemplate : List ℕ → Type 0
@@ -51,11 +54,21 @@ pub record IsPlainNode (n : Node) : Type 0 where
   pub retries : n.retries ≡ 0
   pub upstream : n.upstream ≡ []
 
+-- what is bound is a promise of this node
+abbrev pub IsPromisedBy : List ℕ → Bound → Type 0
+IsPromisedBy node (Promise from var) = from ≡ node
+IsPromisedBy node _ = ⊥
+
+-- what is bound is a promise of an output of one of these names
+abbrev pub IsPromiseOf : List Variable → Bound → Type 0
+IsPromiseOf outputs (Promise from var) = Contains (names_of outputs) var
+IsPromiseOf outputs _ = ⊥
+
 -- Each of these variables is bound exactly once, and nothing else is: by an output of this node that has one of these names.
 pub record BindsEach (variables : List Variable) (node : List ℕ) (outputs : List Variable) (bindings : List Binding) : Type 0 where
   pub once : IsPermutation (bound_names bindings) (names_of variables)
-  pub promised : All (λ (b : Binding). promised_node b.bound ≡ node) bindings
-  pub there : All (λ (b : Binding). Contains (names_of outputs) (promised_var b.bound)) bindings
+  pub promised : All (λ (b : Binding). IsPromisedBy node b.bound) bindings
+  pub there : All (λ (b : Binding). IsPromiseOf outputs b.bound) bindings
 
 -- the bundle is the task t and the workflow w, whose one node n runs the task
 pub record RunsOneTask (b : Bundle) (t : Task) (w : Workflow) (n : Node) : Type 0 where
@@ -68,7 +81,7 @@ pub record RunsOneTask (b : Bundle) (t : Task) (w : Workflow) (n : Node) : Type 
   pub interface : IsIntegerInterface w.interface
   pub nodes : w.nodes ≡ n ∷ []
   pub node : IsPlainNode n
-  pub target : task_of n.target ≡ t.id
+  pub target : n.target ≡ targets.Task t.id
   pub inputs : BindsEach t.interface.inputs start_node w.interface.inputs n.inputs
   pub outputs : BindsEach w.interface.outputs n.id t.interface.outputs w.outputs
 

@@ -1,7 +1,7 @@
 -- The closure of a workflow of one node. Private contracts alone cite it: it is `closure_of` at bundles of one task.
 use Rattle.std.specs.Prelude.{ℕ, List, [], ◌∷◌}
 use Rattle.fly_docs.specs.declared.task.Task.{Task}
-use Rattle.fly_docs.specs.declared.workflow.Node.{Node}
+use Rattle.fly_docs.specs.declared.node.Node.{Node}
 use Rattle.fly_docs.specs.declared.workflow.Workflow.{Workflow}
 use Rattle.fly_docs.specs.declared.closure.Connections.{Connections}
 use Rattle.fly_docs.specs.declared.closure.Closure.{Closure}

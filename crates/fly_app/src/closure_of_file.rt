@@ -1,6 +1,5 @@
-ghost use Rattle.std.specs.Prelude.{◌≡◌, ◌≢◌, ◌≤◌, IfOk, IfErr};
-ghost use Rattle.fly_app.specs.Answers.{HasClosure};
-ghost use Rattle.fly_app.specs.Stops.{HasText, stop_for, StopsReading, StopsAt};
+ghost use Rattle.std.specs.Prelude.{◌≡◌};
+ghost use Rattle.fly_app.specs.ClosureOfFile.{fault_for, CompilesBytes, CompilesFile};
 
 use crate::compile::{CompileFault, compile};
 use crate::faults::{DOCUMENT_LIMIT, DocKind};
@@ -11,7 +10,7 @@ use std::alloc::Global;
 
 /// Why there is no closure to print.
 #[derive(Clone, Copy, Debug, PartialEq, Eq)]
-pub enum Stop {
+pub enum ClosureFault {
     /// The document was refused, for another fault than want of memory.
     Refused(DocKind),
     /// The file could not be read.
@@ -20,50 +19,47 @@ pub enum Stop {
 }
 
 /// The text of the closure of the bundle that the bytes are, with a newline.
-fn closure_of_bytes(alloc: Global, bytes: &[u8]) -> Result<Vec<u8>, Stop>
-    ensures text { IfOk result (λ text. HasText bytes.now text.items) }
-    ensures stop { IfErr result (StopsReading bytes.now) }
+fn closure_of_bytes(alloc: Global, bytes: &[u8]) -> Result<Vec<u8>, ClosureFault>
+    ensures { CompilesBytes bytes.now result }
 {
     let bundle = match read_bundle(alloc, bytes) {
         Ok(bundle) => bundle,
-        Err(fault) => return Err(stop_of(fault.kind)),
+        Err(fault) => return Err(fault_of(fault.kind)),
     };
     let closure = match compile(alloc, &bundle) {
         Ok(closure) => closure,
-        Err(CompileFault::NoMemory) => return Err(Stop::NoMemory),
+        Err(CompileFault::NoMemory) => return Err(ClosureFault::NoMemory),
     };
     let Ok(mut text) = write_closure(alloc, &closure) else {
-        return Err(Stop::NoMemory);
+        return Err(ClosureFault::NoMemory);
     };
     match text.push(b'\n') {
         Ok(()) => Ok(text),
-        Err(_) => Err(Stop::NoMemory),
+        Err(_) => Err(ClosureFault::NoMemory),
     }
 }
 
-fn stop_of(kind: DocKind) -> Stop
-    ensures { result ≡ stop_for kind }
+fn fault_of(kind: DocKind) -> ClosureFault
+    ensures { result ≡ fault_for kind }
 {
     match kind {
-        DocKind::NotJson | DocKind::TooLarge | DocKind::NotBuilt => Stop::Refused(kind),
-        DocKind::NoMemory => Stop::NoMemory,
+        DocKind::NotJson | DocKind::TooLarge | DocKind::NotBuilt => ClosureFault::Refused(kind),
+        DocKind::NoMemory => ClosureFault::NoMemory,
     }
 }
 
 /// The text of the closure of the bundle in a file, with a newline.
-pub fn closure_of_file<F: Files>(alloc: Global, files: &mut F, path: &str) -> Result<Vec<u8>, Stop>
-    ensures text { IfOk result (λ text. HasClosure (F.contents files.old) path.now text.items) }
-    ensures stop { IfErr result
-        (StopsAt (F.contents files.old) path.now (F.read_faults files.old) (F.read_faults files.new)) }
-    ensures kept { result ≢ Err Stop.Unread → F.read_faults files.new ≡ F.read_faults files.old }
-    ensures contents { F.contents files.new ≡ F.contents files.old }
-    ensures later { F.read_faults files.old ≤ F.read_faults files.new }
-    ensures appends { F.append_faults files.new ≡ F.append_faults files.old }
+pub fn closure_of_file<F: Files>(
+    alloc: Global,
+    files: &mut F,
+    path: &str,
+) -> Result<Vec<u8>, ClosureFault>
+    ensures { CompilesFile (F.state files.old) (F.state files.new) path.now result }
 {
     match files.read(alloc, path, DOCUMENT_LIMIT) {
         Ok(bytes) => closure_of_bytes(alloc, &bytes),
-        Err(ReadFault::Failed) => Err(Stop::Unread),
-        Err(ReadFault::Absent) => Err(Stop::Unread),
-        Err(ReadFault::NoMemory) => Err(Stop::NoMemory),
+        Err(ReadFault::Failed) => Err(ClosureFault::Unread),
+        Err(ReadFault::Absent) => Err(ClosureFault::Unread),
+        Err(ReadFault::NoMemory) => Err(ClosureFault::NoMemory),
     }
 }

@@ -3,7 +3,7 @@ ghost use Rattle.std.specs.Prelude.{◌≡◌, [], ◌∷◌, IfOk, option_map, 
 ghost use Rattle.serde_json.specs.Data.{string};
 ghost use Rattle.serde_json.specs.View.{view};
 ghost use Rattle.fly_app.specs.Json.{message, optional_list};
-ghost use Rattle.fly_app.specs.Documents.{identifier_json, task_id_json, workflow_id_json, variable_entry, variables_json, interface_json, bound_json, binding_json, task_json, node_json, workflow_json, bundle_json, id_list_entry, connections_json, compiled_workflow_json, compiled_workflows, compiled_task_json, closure_json};
+ghost use Rattle.fly_app.specs.Documents.{identifier_json, task_id_json, workflow_id_json, variable_entry, variables_json, interface_json, promise_json, bound_json, binding_json, task_json, task_node_json, node_json, workflow_json, bundle_json, id_list_entry, connections_json, compiled_workflow_json, compiled_workflows, compiled_task_json, closure_json};
 
 use crate::message::{
     ToEntry, ToJson, add, list_value, optional_list_json, optional_map_json, optional_message_json,
@@ -121,25 +121,34 @@ fn interface_value(alloc: Global, interface: &Interface) -> Result<Option<Value>
     Ok(optional_message_json(fields))
 }
 
+/// The promise, where one is bound.
+fn promise_value(alloc: Global, bound: &Bound) -> Result<Option<Value>, NoMemory>
+    ensures { IfOk result (λ o. option_map view o ≡ promise_json bound.now) }
+{
+    let Bound::Promise { node, var } = bound else {
+        return Ok(None);
+    };
+    let mut fields = Map::new(alloc);
+    add(
+        &mut fields,
+        alloc,
+        "nodeId",
+        Some(text_json(alloc, node.as_str())?),
+    )?;
+    add(
+        &mut fields,
+        alloc,
+        "var",
+        Some(text_json(alloc, var.as_str())?),
+    )?;
+    Ok(Some(Value::Object(fields)))
+}
+
 impl ToJson for Bound {
     ghost json = { bound_json };
 
     fn to_json(&self, alloc: Global) -> Result<Value, NoMemory> {
-        let Bound::Promise { node, var } = self;
-        let mut fields = Map::new(alloc);
-        add(
-            &mut fields,
-            alloc,
-            "nodeId",
-            Some(text_json(alloc, node.as_str())?),
-        )?;
-        add(
-            &mut fields,
-            alloc,
-            "var",
-            Some(text_json(alloc, var.as_str())?),
-        )?;
-        message_of(alloc, "promise", Some(Value::Object(fields)))
+        message_of(alloc, "promise", promise_value(alloc, self)?)
     }
 }
 
@@ -188,12 +197,21 @@ impl ToJson for Task {
     }
 }
 
+/// The task, where the node runs one.
+fn task_node_value(alloc: Global, target: &Target) -> Result<Option<Value>, NoMemory>
+    ensures { IfOk result (λ o. option_map view o ≡ task_node_json target.now) }
+{
+    let Target::Task(task) = target else {
+        return Ok(None);
+    };
+    let reference = task_id_value(alloc, task)?;
+    Ok(Some(message_of(alloc, "referenceId", Some(reference))?))
+}
+
 impl ToJson for Node {
     ghost json = { node_json };
 
     fn to_json(&self, alloc: Global) -> Result<Value, NoMemory> {
-        let Target::Task(task) = &self.target;
-        let reference = Some(task_id_value(alloc, task)?);
         let mut fields = Map::new(alloc);
         add(
             &mut fields,
@@ -211,7 +229,7 @@ impl ToJson for Node {
             &mut fields,
             alloc,
             "taskNode",
-            Some(message_of(alloc, "referenceId", reference)?),
+            task_node_value(alloc, &self.target)?,
         )?;
         Ok(Value::Object(fields))
     }

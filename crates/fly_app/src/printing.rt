@@ -1,8 +1,7 @@
-ghost use Rattle.std.specs.Prelude.{◌≡◌, ◌≤◌, ◌⊎◌, ◌≢◌, IfOk, IsOkAnd, string_bytes};
-ghost use Rattle.fly_ports.specs.Faults.{Rose};
-ghost use Rattle.fly_ports.specs.Written.{WritesPart};
+ghost use Rattle.std.specs.Prelude.{◌≡◌, ◌≢◌, IfOk, MatchResult, string_bytes};
+ghost use Rattle.fly_ports.specs.Sink.{Tries};
 ghost use Rattle.fly_app.specs.declared.faults.DocKind.{DocKind};
-ghost use Rattle.fly_app.specs.Answers.{Gets, Tries, FailsToTell, unwritten_text, no_memory_text, kind_name as name_of_kind, usage_text, refusal_text, unread_text};
+ghost use Rattle.fly_app.specs.Printing.{PrintsText, SaysLine, no_memory_text, kind_name as name_of_kind, usage_text, refusal_text, unread_text};
 
 use crate::Status;
 use crate::faults::DocKind;
@@ -51,25 +50,14 @@ pub fn unread_line(alloc: Global, path: &str) -> Result<String, NoMemory>
 
 /// Puts a line, and doesn't mind where that fails.
 fn try_to_put<E: Sink>(err: &mut E, line: &[u8])
-    ensures tried { Tries (E.written err.old) (E.written err.new) (E.faults err.old) (E.faults err.new) line.now }
-    ensures later { E.faults err.old ≤ E.faults err.new }
+    ensures { Tries (E.state err.old) (E.state err.new) line.now }
 {
     let _ = err.put(line);
 }
 
 /// Prints the text that the words ask for.
 pub fn print<O: Sink, E: Sink>(out: &mut O, err: &mut E, text: &[u8]) -> Status
-    ensures done { result ≡ Status.Done → Gets (O.written out.old) (O.written out.new) text.now }
-    ensures silent { result ≡ Status.Done → E.written err.new ≡ E.written err.old }
-    ensures failed { result ≡ Status.WriteFault → Rose (O.faults out.old) (O.faults out.new) }
-    ensures part { result ≡ Status.WriteFault → WritesPart (O.written out.old) (O.written out.new) text.now }
-    ensures tried { result ≡ Status.WriteFault
-        → Tries (E.written err.old) (E.written err.new) (E.faults err.old) (E.faults err.new) unwritten_text }
-    ensures either { (result ≡ Status.Done) ⊎ (result ≡ Status.WriteFault) }
-    ensures kept { result ≡ Status.Done
-        → (O.faults out.new ≡ O.faults out.old) × (E.faults err.new ≡ E.faults err.old) }
-    ensures out_later { O.faults out.old ≤ O.faults out.new }
-    ensures err_later { E.faults err.old ≤ E.faults err.new }
+    ensures { PrintsText (O.state out.old) (O.state out.new) (E.state err.old) (E.state err.new) text.now result }
 {
     match out.put(text) {
         Ok(()) => Status::Done,
@@ -80,18 +68,12 @@ pub fn print<O: Sink, E: Sink>(out: &mut O, err: &mut E, text: &[u8]) -> Status
     }
 }
 
-/// Says why there is no text, and answers the status for that.
-pub fn tell<E: Sink>(err: &mut E, line: &str, status: Status) -> Status
-    requires { status ≢ Status.WriteFault }
-    ensures told { result ≡ status → Gets (E.written err.old) (E.written err.new) line.now }
-    ensures failed { result ≡ Status.WriteFault → Rose (E.faults err.old) (E.faults err.new) }
-    ensures tried { result ≡ Status.WriteFault → FailsToTell (E.written err.old) (E.written err.new) line.now }
-    ensures either { (result ≡ status) ⊎ (result ≡ Status.WriteFault) }
-    ensures kept { result ≡ status → E.faults err.new ≡ E.faults err.old }
-    ensures later { E.faults err.old ≤ E.faults err.new }
+/// Puts the line that says why there is no text, and answers the status for that.
+fn put_line<E: Sink>(err: &mut E, line: &str, reason: Status) -> Status
+    ensures { SaysLine (E.state err.old) (E.state err.new) line.now reason result }
 {
     match err.put(line.as_bytes()) {
-        Ok(()) => status,
+        Ok(()) => reason,
         Err(_) => {
             try_to_put(err, CANNOT_WRITE);
             Status::WriteFault
@@ -102,30 +84,19 @@ pub fn tell<E: Sink>(err: &mut E, line: &str, status: Status) -> Status
 /// Says that there is no memory, as far as that can be said.
 pub fn out_of_memory<E: Sink>(err: &mut E) -> Status
     ensures status { result ≡ Status.NoMemory }
-    ensures tried { Tries (E.written err.old) (E.written err.new) (E.faults err.old) (E.faults err.new) no_memory_text }
-    ensures later { E.faults err.old ≤ E.faults err.new }
+    ensures tried { Tries (E.state err.old) (E.state err.new) no_memory_text }
 {
     try_to_put(err, OUT_OF_MEMORY);
     Status::NoMemory
 }
 
 /// Says why there is no text, where there was memory for the line.
-pub fn say<E: Sink>(err: &mut E, line: Result<String, NoMemory>, status: Status) -> Status
-    requires written { status ≢ Status.WriteFault }
-    requires memory { status ≢ Status.NoMemory }
-    ensures told { result ≡ status
-        → IsOkAnd line (λ l. Gets (E.written err.old) (E.written err.new) (string_bytes l)) }
-    ensures failed { result ≡ Status.WriteFault → Rose (E.faults err.old) (E.faults err.new) }
-    ensures tried { result ≡ Status.WriteFault
-        → IsOkAnd line (λ l. FailsToTell (E.written err.old) (E.written err.new) (string_bytes l)) }
-    ensures memory { result ≡ Status.NoMemory
-        → Tries (E.written err.old) (E.written err.new) (E.faults err.old) (E.faults err.new) no_memory_text }
-    ensures either { (result ≡ status) ⊎ (result ≡ Status.WriteFault) ⊎ (result ≡ Status.NoMemory) }
-    ensures kept { result ≡ status → E.faults err.new ≡ E.faults err.old }
-    ensures later { E.faults err.old ≤ E.faults err.new }
+pub fn say<E: Sink>(err: &mut E, line: Result<String, NoMemory>, reason: Status) -> Status
+    ensures { MatchResult line (λ l. SaysLine (E.state err.old) (E.state err.new) (string_bytes l) reason result)
+        (λ e. (result ≡ Status.NoMemory) × Tries (E.state err.old) (E.state err.new) no_memory_text) }
 {
     match line {
-        Ok(line) => tell(err, line.as_str(), status),
+        Ok(line) => put_line(err, line.as_str(), reason),
         Err(NoMemory) => out_of_memory(err),
     }
 }

@@ -3,9 +3,9 @@ ghost use Rattle.std.specs.List.Sorted.{IsPermutation};
 ghost use Rattle.fly_types.specs.declared.kinds.LiteralType.TheVariants as types;
 ghost use Rattle.fly_types.specs.declared.kinds.Simple.TheVariants as simple;
 ghost use Rattle.fly_docs.specs.Names.{IsId, IsIdentifier};
-ghost use Rattle.fly_docs.specs.Interfaces.{names_of, bound_names, AreInOrder, promised_node, promised_var};
-ghost use Rattle.fly_docs.specs.declared.interface.Binding as binding;
-ghost use Rattle.fly_docs.specs.Closures.{task_of};
+ghost use Rattle.fly_docs.specs.Interfaces.{names_of, bound_names, AreInOrder};
+ghost use Rattle.fly_docs.specs.declared.binding.Binding as binding;
+ghost use Rattle.fly_docs.specs.declared.node.Target.TheVariants as targets;
 ghost use Rattle.fly_app.specs.SingleTask as form;
 
 use fly_docs::{
@@ -90,10 +90,12 @@ fn is_plain_workflow(workflow: &Workflow) -> bool
 
 fn runs_plainly(node: &Node, task: &Task) -> bool
     ensures { IsTrue result
-        ↔ (form.IsPlainNode node.now × (task_of node.now.target ≡ task.now.id)) }
+        ↔ (form.IsPlainNode node.now × (node.now.target ≡ targets.Task task.now.id)) }
 {
-    let Target::Task(target) = &node.target;
-    is_plain_node(node) && *target == task.id
+    match &node.target {
+        Target::Task(id) => is_plain_node(node) && *id == task.id,
+        _ => false,
+    }
 }
 
 fn is_plain_task(task: &Task) -> bool
@@ -203,22 +205,24 @@ fn binds_each(
 
 fn are_promised_by(bindings: &[Binding], node: &str) -> bool
     ensures { IsTrue result
-        ↔ All (λ (b : binding.Binding). promised_node b.bound ≡ node.now) bindings.now }
+        ↔ All (λ (b : binding.Binding). form.IsPromisedBy node.now b.bound) bindings.now }
 {
     bindings.iter().all(|b| is_promised_by(&b.bound, node))
 }
 
 fn is_promised_by(bound: &Bound, node: &str) -> bool
-    ensures { IsTrue result ↔ (promised_node bound.now ≡ node.now) }
+    ensures { IsTrue result ↔ form.IsPromisedBy node.now bound.now }
 {
-    let Bound::Promise { node: from, .. } = bound;
-    from.as_str() == node
+    match bound {
+        Bound::Promise { node: from, .. } => from.as_str() == node,
+        _ => false,
+    }
 }
 
 fn are_promises_of(bindings: &[Binding], outputs: &[Variable]) -> bool
     requires { AreInOrder (names_of outputs.now) }
     ensures { IsTrue result
-        ↔ All (λ (b : binding.Binding). Contains (names_of outputs.now) (promised_var b.bound)) bindings.now }
+        ↔ All (λ (b : binding.Binding). form.IsPromiseOf outputs.now b.bound) bindings.now }
 {
     for binding in bindings {
         if !is_promise_of(&binding.bound, outputs) {
@@ -230,10 +234,12 @@ fn are_promises_of(bindings: &[Binding], outputs: &[Variable]) -> bool
 
 fn is_promise_of(bound: &Bound, outputs: &[Variable]) -> bool
     requires { AreInOrder (names_of outputs.now) }
-    ensures { IsTrue result ↔ Contains (names_of outputs.now) (promised_var bound.now) }
+    ensures { IsTrue result ↔ form.IsPromiseOf outputs.now bound.now }
 {
-    let Bound::Promise { var, .. } = bound;
-    has_name(outputs, var.as_str())
+    match bound {
+        Bound::Promise { var, .. } => has_name(outputs, var.as_str()),
+        _ => false,
+    }
 }
 
 fn has_name(variables: &[Variable], name: &str) -> bool

@@ -6,45 +6,41 @@ use std::test::Fail;
 
 /// One task, and one workflow that runs it once.
 const INC: &str =
-    "{\"primary\":{\"domain\":\"d\",\"name\":\"w\",\"project\":\"p\",\"resourceType\":\"WORKFLOW\",\"version\":\"1\"},\"tasks\":[{\"container\":{\"command\":[\"inc\"]},\"id\":{\"domain\":\"d\",\"name\":\"inc\",\"project\":\"p\",\"resourceType\":\"TASK\",\"version\":\"1\"},\"interface\":{\"inputs\":{\"variables\":{\"x\":{\"type\":{\"simple\":\"INTEGER\"}}}},\"outputs\":{\"variables\":{\"y\":{\"type\":{\"simple\":\"INTEGER\"}}}}}}],\"workflows\":[{\"id\":{\"domain\":\"d\",\"name\":\"w\",\"project\":\"p\",\"resourceType\":\"WORKFLOW\",\"version\":\"1\"},\"interface\":{\"inputs\":{\"variables\":{\"a\":{\"type\":{\"simple\":\"INTEGER\"}}}},\"outputs\":{\"variables\":{\"b\":{\"type\":{\"simple\":\"INTEGER\"}}}}},\"nodes\":[{\"id\":\"n0\",\"inputs\":[{\"binding\":{\"promise\":{\"nodeId\":\"start-node\",\"var\":\"a\"}},\"var\":\"x\"}],\"taskNode\":{\"referenceId\":{\"domain\":\"d\",\"name\":\"inc\",\"project\":\"p\",\"resourceType\":\"TASK\",\"version\":\"1\"}}}],\"outputs\":[{\"binding\":{\"promise\":{\"nodeId\":\"n0\",\"var\":\"y\"}},\"var\":\"b\"}]}]}";
+    r#"{"primary":{"domain":"d","name":"w","project":"p","resourceType":"WORKFLOW","version":"1"},"tasks":[{"container":{"command":["inc"]},"id":{"domain":"d","name":"inc","project":"p","resourceType":"TASK","version":"1"},"interface":{"inputs":{"variables":{"x":{"type":{"simple":"INTEGER"}}}},"outputs":{"variables":{"y":{"type":{"simple":"INTEGER"}}}}}}],"workflows":[{"id":{"domain":"d","name":"w","project":"p","resourceType":"WORKFLOW","version":"1"},"interface":{"inputs":{"variables":{"a":{"type":{"simple":"INTEGER"}}}},"outputs":{"variables":{"b":{"type":{"simple":"INTEGER"}}}}},"nodes":[{"id":"n0","inputs":[{"binding":{"promise":{"nodeId":"start-node","var":"a"}},"var":"x"}],"taskNode":{"referenceId":{"domain":"d","name":"inc","project":"p","resourceType":"TASK","version":"1"}}}],"outputs":[{"binding":{"promise":{"nodeId":"n0","var":"y"}},"var":"b"}]}]}"#;
 
 /// Its closure.
 const CLOSURE: &str =
-    "{\"primary\":{\"connections\":{\"downstream\":{\"n0\":{\"ids\":[\"end-node\"]},\"start-node\":{\"ids\":[\"n0\"]}},\"upstream\":{\"end-node\":{\"ids\":[\"n0\"]},\"n0\":{\"ids\":[\"start-node\"]}}},\"template\":{\"id\":{\"domain\":\"d\",\"name\":\"w\",\"project\":\"p\",\"resourceType\":\"WORKFLOW\",\"version\":\"1\"},\"interface\":{\"inputs\":{\"variables\":{\"a\":{\"type\":{\"simple\":\"INTEGER\"}}}},\"outputs\":{\"variables\":{\"b\":{\"type\":{\"simple\":\"INTEGER\"}}}}},\"nodes\":[{\"id\":\"n0\",\"inputs\":[{\"binding\":{\"promise\":{\"nodeId\":\"start-node\",\"var\":\"a\"}},\"var\":\"x\"}],\"taskNode\":{\"referenceId\":{\"domain\":\"d\",\"name\":\"inc\",\"project\":\"p\",\"resourceType\":\"TASK\",\"version\":\"1\"}}}],\"outputs\":[{\"binding\":{\"promise\":{\"nodeId\":\"n0\",\"var\":\"y\"}},\"var\":\"b\"}]}},\"tasks\":[{\"template\":{\"container\":{\"command\":[\"inc\"]},\"id\":{\"domain\":\"d\",\"name\":\"inc\",\"project\":\"p\",\"resourceType\":\"TASK\",\"version\":\"1\"},\"interface\":{\"inputs\":{\"variables\":{\"x\":{\"type\":{\"simple\":\"INTEGER\"}}}},\"outputs\":{\"variables\":{\"y\":{\"type\":{\"simple\":\"INTEGER\"}}}}}}}]}\n";
+    r#"{"primary":{"connections":{"downstream":{"n0":{"ids":["end-node"]},"start-node":{"ids":["n0"]}},"upstream":{"end-node":{"ids":["n0"]},"n0":{"ids":["start-node"]}}},"template":{"id":{"domain":"d","name":"w","project":"p","resourceType":"WORKFLOW","version":"1"},"interface":{"inputs":{"variables":{"a":{"type":{"simple":"INTEGER"}}}},"outputs":{"variables":{"b":{"type":{"simple":"INTEGER"}}}}},"nodes":[{"id":"n0","inputs":[{"binding":{"promise":{"nodeId":"start-node","var":"a"}},"var":"x"}],"taskNode":{"referenceId":{"domain":"d","name":"inc","project":"p","resourceType":"TASK","version":"1"}}}],"outputs":[{"binding":{"promise":{"nodeId":"n0","var":"y"}},"var":"b"}]}},"tasks":[{"template":{"container":{"command":["inc"]},"id":{"domain":"d","name":"inc","project":"p","resourceType":"TASK","version":"1"},"interface":{"inputs":{"variables":{"x":{"type":{"simple":"INTEGER"}}}},"outputs":{"variables":{"y":{"type":{"simple":"INTEGER"}}}}}}}]}
+"#;
 
 /// The same with a second node.
 const TWO_NODES: &str =
-    "{\"primary\":{\"domain\":\"d\",\"name\":\"w\",\"project\":\"p\",\"resourceType\":\"WORKFLOW\",\"version\":\"1\"},\"tasks\":[{\"container\":{\"command\":[\"inc\"]},\"id\":{\"domain\":\"d\",\"name\":\"inc\",\"project\":\"p\",\"resourceType\":\"TASK\",\"version\":\"1\"},\"interface\":{\"inputs\":{\"variables\":{\"x\":{\"type\":{\"simple\":\"INTEGER\"}}}},\"outputs\":{\"variables\":{\"y\":{\"type\":{\"simple\":\"INTEGER\"}}}}}}],\"workflows\":[{\"id\":{\"domain\":\"d\",\"name\":\"w\",\"project\":\"p\",\"resourceType\":\"WORKFLOW\",\"version\":\"1\"},\"interface\":{\"inputs\":{\"variables\":{\"a\":{\"type\":{\"simple\":\"INTEGER\"}}}},\"outputs\":{\"variables\":{\"b\":{\"type\":{\"simple\":\"INTEGER\"}}}}},\"nodes\":[{\"id\":\"n0\",\"inputs\":[{\"binding\":{\"promise\":{\"nodeId\":\"start-node\",\"var\":\"a\"}},\"var\":\"x\"}],\"taskNode\":{\"referenceId\":{\"domain\":\"d\",\"name\":\"inc\",\"project\":\"p\",\"resourceType\":\"TASK\",\"version\":\"1\"}}},{\"id\":\"n1\",\"inputs\":[{\"binding\":{\"promise\":{\"nodeId\":\"start-node\",\"var\":\"a\"}},\"var\":\"x\"}],\"taskNode\":{\"referenceId\":{\"domain\":\"d\",\"name\":\"inc\",\"project\":\"p\",\"resourceType\":\"TASK\",\"version\":\"1\"}}}],\"outputs\":[{\"binding\":{\"promise\":{\"nodeId\":\"n0\",\"var\":\"y\"}},\"var\":\"b\"}]}]}";
+    r#"{"primary":{"domain":"d","name":"w","project":"p","resourceType":"WORKFLOW","version":"1"},"tasks":[{"container":{"command":["inc"]},"id":{"domain":"d","name":"inc","project":"p","resourceType":"TASK","version":"1"},"interface":{"inputs":{"variables":{"x":{"type":{"simple":"INTEGER"}}}},"outputs":{"variables":{"y":{"type":{"simple":"INTEGER"}}}}}}],"workflows":[{"id":{"domain":"d","name":"w","project":"p","resourceType":"WORKFLOW","version":"1"},"interface":{"inputs":{"variables":{"a":{"type":{"simple":"INTEGER"}}}},"outputs":{"variables":{"b":{"type":{"simple":"INTEGER"}}}}},"nodes":[{"id":"n0","inputs":[{"binding":{"promise":{"nodeId":"start-node","var":"a"}},"var":"x"}],"taskNode":{"referenceId":{"domain":"d","name":"inc","project":"p","resourceType":"TASK","version":"1"}}},{"id":"n1","inputs":[{"binding":{"promise":{"nodeId":"start-node","var":"a"}},"var":"x"}],"taskNode":{"referenceId":{"domain":"d","name":"inc","project":"p","resourceType":"TASK","version":"1"}}}],"outputs":[{"binding":{"promise":{"nodeId":"n0","var":"y"}},"var":"b"}]}]}"#;
 
 /// The same with an output of the type STRING.
 const STRING_OUTPUT: &str =
-    "{\"primary\":{\"domain\":\"d\",\"name\":\"w\",\"project\":\"p\",\"resourceType\":\"WORKFLOW\",\"version\":\"1\"},\"tasks\":[{\"container\":{\"command\":[\"inc\"]},\"id\":{\"domain\":\"d\",\"name\":\"inc\",\"project\":\"p\",\"resourceType\":\"TASK\",\"version\":\"1\"},\"interface\":{\"inputs\":{\"variables\":{\"x\":{\"type\":{\"simple\":\"INTEGER\"}}}},\"outputs\":{\"variables\":{\"y\":{\"type\":{\"simple\":\"INTEGER\"}}}}}}],\"workflows\":[{\"id\":{\"domain\":\"d\",\"name\":\"w\",\"project\":\"p\",\"resourceType\":\"WORKFLOW\",\"version\":\"1\"},\"interface\":{\"inputs\":{\"variables\":{\"a\":{\"type\":{\"simple\":\"INTEGER\"}}}},\"outputs\":{\"variables\":{\"b\":{\"type\":{\"simple\":\"STRING\"}}}}},\"nodes\":[{\"id\":\"n0\",\"inputs\":[{\"binding\":{\"promise\":{\"nodeId\":\"start-node\",\"var\":\"a\"}},\"var\":\"x\"}],\"taskNode\":{\"referenceId\":{\"domain\":\"d\",\"name\":\"inc\",\"project\":\"p\",\"resourceType\":\"TASK\",\"version\":\"1\"}}}],\"outputs\":[{\"binding\":{\"promise\":{\"nodeId\":\"n0\",\"var\":\"y\"}},\"var\":\"b\"}]}]}";
+    r#"{"primary":{"domain":"d","name":"w","project":"p","resourceType":"WORKFLOW","version":"1"},"tasks":[{"container":{"command":["inc"]},"id":{"domain":"d","name":"inc","project":"p","resourceType":"TASK","version":"1"},"interface":{"inputs":{"variables":{"x":{"type":{"simple":"INTEGER"}}}},"outputs":{"variables":{"y":{"type":{"simple":"INTEGER"}}}}}}],"workflows":[{"id":{"domain":"d","name":"w","project":"p","resourceType":"WORKFLOW","version":"1"},"interface":{"inputs":{"variables":{"a":{"type":{"simple":"INTEGER"}}}},"outputs":{"variables":{"b":{"type":{"simple":"STRING"}}}}},"nodes":[{"id":"n0","inputs":[{"binding":{"promise":{"nodeId":"start-node","var":"a"}},"var":"x"}],"taskNode":{"referenceId":{"domain":"d","name":"inc","project":"p","resourceType":"TASK","version":"1"}}}],"outputs":[{"binding":{"promise":{"nodeId":"n0","var":"y"}},"var":"b"}]}]}"#;
+
+const COMPILE: &[&str; 2] = &["compile", "b.json"];
 
 fn text(alloc: Global, text: &str) -> Result<Text, AllocError> {
     Ok(Text::from_string(String::from_str(alloc, text)?))
 }
 
-fn no_numbers(alloc: Global) -> List<u64> {
-    List::from_vec(Vec::new(alloc))
+fn numbers(alloc: Global, of: &[u64]) -> Result<List<u64>, AllocError> {
+    Ok(List::from_vec(Vec::from_slice(alloc, of)?))
 }
 
-/// What a command came to, and what it wrote.
-#[derive(Drop)]
-struct Ran {
-    status: Status,
-    out: MemSink,
-    err: MemSink,
-}
-
-impl Ran {
-    fn is(&self, status: Status, out: &str, err: &str) -> bool {
-        self.status == status
-            && self.out.bytes() == out.as_bytes()
-            && self.err.bytes() == err.as_bytes()
+fn words(alloc: Global, spelled: &[&str]) -> Result<Vec<Text>, AllocError> {
+    let mut words = Vec::new(alloc);
+    for word in spelled {
+        words.push(text(alloc, word)?)?;
     }
+    Ok(words)
 }
 
-fn files(alloc: Global, content: Option<&str>) -> Result<MemFiles, Fail> {
+/// The file `b.json`, if any, where the reads of these numbers fail.
+fn files(alloc: Global, content: Option<&str>, bad_reads: &[u64]) -> Result<MemFiles, Fail> {
     let content = match content {
         Some(content) => Some(Bytes::from_vec(Vec::from_slice(alloc, content.as_bytes())?)),
         None => None,
@@ -55,38 +51,64 @@ fn files(alloc: Global, content: Option<&str>) -> Result<MemFiles, Fail> {
         room: 4096,
     };
     let files = List::from_vec(vec![in alloc; file]?);
-    Ok(MemFiles::make(alloc, files, no_numbers(alloc), no_numbers(alloc))?)
+    Ok(MemFiles::make(
+        alloc,
+        files,
+        numbers(alloc, bad_reads)?,
+        numbers(alloc, &[])?,
+    )?)
 }
 
-/// Runs a command over one file, with a sink for answers in which the calls in `bad` fail.
-fn run(rt: &HostRuntime, words: &[&str], content: Option<&str>, bad: &[u64]) -> Result<Ran, Fail> {
-    let alloc = rt.alloc();
-    let mut spelled = Vec::new(alloc);
-    for word in words {
-        spelled.push(text(alloc, word)?)?;
+/// A sink in which no call fails before the room is used up.
+fn sink(alloc: Global, room: u64) -> Result<MemSink, Fail> {
+    Ok(MemSink::make(alloc, room, numbers(alloc, &[])?)?)
+}
+
+/// What a command came to, and what it wrote.
+#[derive(Drop)]
+struct Outcome {
+    status: Status,
+    out: MemSink,
+    err: MemSink,
+}
+
+impl Outcome {
+    fn is(&self, status: Status, out: &str, err: &str) -> bool {
+        self.status == status
+            && self.out.bytes() == out.as_bytes()
+            && self.err.bytes() == err.as_bytes()
     }
-    let mut files = files(alloc, content)?;
-    let bad = List::from_vec(Vec::from_slice(alloc, bad)?);
-    let mut out = MemSink::make(alloc, 4096, bad)?;
-    let mut err = MemSink::make(alloc, 4096, no_numbers(alloc))?;
-    let status = plain(rt, alloc, &spelled, &mut files, &mut out, &mut err);
-    Ok(Ran { status, out, err })
+}
+
+/// Runs a command over these files, with so much room for answers.
+fn run(
+    rt: &HostRuntime,
+    spelled: &[&str],
+    mut files: MemFiles,
+    room: u64,
+) -> Result<Outcome, Fail> {
+    let alloc = rt.alloc();
+    let words = words(alloc, spelled)?;
+    let mut out = sink(alloc, room)?;
+    let mut err = sink(alloc, 4096)?;
+    let status = plain(rt, alloc, &words, &mut files, &mut out, &mut err);
+    Ok(Outcome { status, out, err })
 }
 
 #[test]
 fn a_bundle_compiles(rt: HostRuntime) -> Result<(), Fail> {
-    let ran = run(&rt, &["compile", "b.json"], Some(INC), &[])?;
-    assert!(rt; ran.is(Status::Done, CLOSURE, ""));
+    let outcome = run(&rt, COMPILE, files(rt.alloc(), Some(INC), &[])?, 4096)?;
+    assert!(rt; outcome.is(Status::Done, CLOSURE, ""));
     Ok(())
 }
 
 #[test]
 fn a_bundle_compiles_by_the_top_call(rt: HostRuntime) -> Result<(), Fail> {
     let alloc = rt.alloc();
-    let words = vec![in alloc; text(alloc, "compile")?, text(alloc, "b.json")?]?;
-    let mut files = files(alloc, Some(INC))?;
-    let mut out = MemSink::make(alloc, 4096, no_numbers(alloc))?;
-    let mut err = MemSink::make(alloc, 0, no_numbers(alloc))?;
+    let words = words(alloc, COMPILE)?;
+    let mut files = files(alloc, Some(INC), &[])?;
+    let mut out = sink(alloc, 4096)?;
+    let mut err = sink(alloc, 0)?;
     let mut crew: Vec<Hand<TableSpawner, ListClock, OpenGate>> = Vec::new(alloc);
     let status = flyte(
         &rt, alloc, &words, &mut files, &mut out, &mut err, &mut crew,
@@ -97,36 +119,47 @@ fn a_bundle_compiles_by_the_top_call(rt: HostRuntime) -> Result<(), Fail> {
 }
 
 #[test]
-fn there_is_nothing_to_compile(rt: HostRuntime) -> Result<(), Fail> {
-    let words = &["compile", "b.json"];
-    assert!(rt; run(&rt, words, None, &[])?.is(Status::ReadFault, "", "cannot read b.json\n"));
-    assert!(rt; run(&rt, words, Some(""), &[])?.is(Status::Refused, "", "bundle: NotJson /\n"));
-    assert!(rt;
-        run(&rt, words, Some(TWO_NODES), &[])?.is(Status::Refused, "", "bundle: NotBuilt /\n")
-    );
-    assert!(rt;
-        run(&rt, words, Some(STRING_OUTPUT), &[])?.is(Status::Refused, "", "bundle: NotBuilt /\n")
-    );
+fn a_document_with_a_fault_is_refused(rt: HostRuntime) -> Result<(), Fail> {
+    let refusals = &[
+        ("", "bundle: NotJson /\n"),
+        (TWO_NODES, "bundle: NotBuilt /\n"),
+        (STRING_OUTPUT, "bundle: NotBuilt /\n"),
+    ];
+    for (document, line) in refusals {
+        let outcome = run(&rt, COMPILE, files(rt.alloc(), Some(document), &[])?, 4096)?;
+        assert!(rt; outcome.is(Status::Refused, "", line));
+    }
     Ok(())
 }
 
 #[test]
-fn the_first_wrong_word_is_told(rt: HostRuntime) -> Result<(), Fail> {
-    assert!(rt; run(&rt, &[], None, &[])?.is(Status::Usage, "", "usage: word 0\n"));
-    assert!(rt; run(&rt, &["run"], None, &[])?.is(Status::Usage, "", "usage: word 0\n"));
-    assert!(rt; run(&rt, &["compile"], None, &[])?.is(Status::Usage, "", "usage: word 1\n"));
-    assert!(rt;
-        run(&rt, &["compile", "--all"], None, &[])?.is(Status::Usage, "", "usage: word 1\n")
-    );
-    assert!(rt;
-        run(&rt, &["compile", "a", "b"], None, &[])?.is(Status::Usage, "", "usage: word 2\n")
-    );
+fn a_file_that_is_absent_or_not_read_is_named(rt: HostRuntime) -> Result<(), Fail> {
+    let absent = run(&rt, COMPILE, files(rt.alloc(), None, &[])?, 4096)?;
+    assert!(rt; absent.is(Status::ReadFault, "", "cannot read b.json\n"));
+    let failed = run(&rt, COMPILE, files(rt.alloc(), Some(INC), &[1])?, 4096)?;
+    assert!(rt; failed.is(Status::ReadFault, "", "cannot read b.json\n"));
     Ok(())
 }
 
 #[test]
-fn an_answer_that_cannot_be_written_is_told(rt: HostRuntime) -> Result<(), Fail> {
-    let ran = run(&rt, &["compile", "b.json"], Some(INC), &[1])?;
-    assert!(rt; ran.is(Status::WriteFault, "", "cannot write\n"));
+fn the_first_wrong_word_is_numbered(rt: HostRuntime) -> Result<(), Fail> {
+    let lines: &[(&[&str], &str)] = &[
+        (&[], "usage: word 0\n"),
+        (&["run"], "usage: word 0\n"),
+        (&["compile"], "usage: word 1\n"),
+        (&["compile", "--all"], "usage: word 1\n"),
+        (&["compile", "a", "b"], "usage: word 2\n"),
+    ];
+    for (spelled, line) in lines {
+        let outcome = run(&rt, spelled, files(rt.alloc(), None, &[])?, 4096)?;
+        assert!(rt; outcome.is(Status::Usage, "", line));
+    }
+    Ok(())
+}
+
+#[test]
+fn an_answer_ends_where_its_room_does(rt: HostRuntime) -> Result<(), Fail> {
+    let outcome = run(&rt, COMPILE, files(rt.alloc(), Some(INC), &[])?, 11)?;
+    assert!(rt; outcome.is(Status::WriteFault, "{\"primary\":", "cannot write\n"));
     Ok(())
 }

@@ -1,5 +1,5 @@
 ghost use Rattle.std.specs.Prelude.{◌≡◌, IfOk, IfErr};
-ghost use Rattle.fly_app.specs.Commands.{IsCompile, IsFirstWrong, is_option as begins_as_option};
+ghost use Rattle.fly_app.specs.Words.{IsCompile, IsFirstWrong, is_option as begins_as_option};
 
 use fly_types::Text;
 

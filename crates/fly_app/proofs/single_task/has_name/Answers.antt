@@ -1,7 +1,7 @@
 use Rattle.std.proofs.Common.{rules, nat_cmp}
 use Rattle.std.specs.Cmp.Lexicographic.{slice_cmp}
 use Rattle.std.proofs.lemmas.Fn.{always_returns_same}
-use Rattle.fly_types.specs.declared.literals.Variable.{Variable}
+use Rattle.fly_types.specs.declared.variable.Variable.{Variable}
 use Rattle.fly_app.proofs.Orders.{name_found}
 use Rattle.fly_app.proofs.single_task.has_name.Goals as goal
 

@@ -1,6 +1,6 @@
 use Rattle.std.proofs.Common.{rules, ◌↔◌, IsTrue, All}
 use Rattle.std.proofs.lemmas.List.Elements.{All-map}
-use Rattle.fly_types.specs.declared.literals.Variable.{Variable}
+use Rattle.fly_types.specs.declared.variable.Variable.{Variable}
 use Rattle.fly_docs.specs.Names.{IsId}
 use Rattle.fly_app.proofs.Orders.{ids_of_names}
 use Rattle.fly_app.proofs.single_task.have_ids.Goals as goal

@@ -1,6 +1,6 @@
 use Rattle.std.proofs.Common.{sym, ap, ◌∙◌}
-use Rattle.fly_app.specs.Commands.{is_option}
-use Rattle.fly_app.proofs.CommandLines.{empty_words, other_command, missing_file, option_for_file, file_command, third_word}
+use Rattle.fly_app.specs.Words.{is_option}
+use Rattle.fly_app.proofs.WordsLemmas.{empty_words, other_command, missing_file, option_for_file, file_command, third_word}
 use Rattle.fly_app.proofs.words.read_words.Goals as goal
 
 pub returns-in_default-clause-wrong : goal.returns-in_default-clause-wrong

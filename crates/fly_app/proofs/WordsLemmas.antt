@@ -3,7 +3,7 @@ use Rattle.std.proofs.Common.{◌≡◌, ◌≢◌, ℕ, List, [], ◌∷◌, le
 use Rattle.std.specs.Str.{bytes_eq}
 use Rattle.std.proofs.lemmas.Bool.Decides.{nat_tests}
 use Rattle.std.proofs.lemmas.Slice.Eq.{bytes_eq-Decides}
-use Rattle.fly_app.specs.Commands.{is_option, IsCompile, IsCommand, IsFirstWrong}
+use Rattle.fly_app.specs.Words.{is_option, IsCompile, IsCommand, IsFirstWrong}
 
 -- any file will do, as the one without a name
 command_at : (path : List ℕ) → is_option path ≡ false → IsCommand (codes "compile" ∷ path ∷ [])
