@@ -96,7 +96,7 @@ module _ (b : Bundle) (t : Task) (w : Workflow) (n : Node) (f : RunsOneTask b t 
   upstream_one =
       let own : Text × List Text = (end_node, ids_at w (0 ∷ [])) in
       (λ i. (end_node, ids_at w (it_is_last (needs w) (places_of w) places_one needs_none i))
-          ∷ map (λ (at : ℕ × Node). (at.1.id, ids_or start_node (ids_at w (needed_by w at.0)))) (enumerate_from 0 (nodes_one i)))
+      ∷ map (λ (at : ℕ × Node). (at.1.id, ids_or start_node (ids_at w (needed_by w at.0)))) (enumerate_from 0 (nodes_one i)))
       ∙ ap (λ ids. own ∷ (n.id, ids_or start_node (ids_at w ids)) ∷ []) (none_before (needs w) (places_of w) places_one needs_none)
       ∙ ap (λ ids. (end_node, ids) ∷ (n.id, start_node ∷ []) ∷ []) ids_one
 
@@ -104,7 +104,7 @@ module _ (b : Bundle) (t : Task) (w : Workflow) (n : Node) (f : RunsOneTask b t 
   downstream_one =
       let own : Text × List Text = (start_node, ids_at w (0 ∷ [])) in
       (λ i. (start_node, ids_at w (it_is_first (needs w) (places_of w) places_one needs_none i))
-          ∷ map (λ (at : ℕ × Node). (at.1.id, ids_or end_node (ids_at w (needing w at.0)))) (enumerate_from 0 (nodes_one i)))
+      ∷ map (λ (at : ℕ × Node). (at.1.id, ids_or end_node (ids_at w (needing w at.0)))) (enumerate_from 0 (nodes_one i)))
       ∙ ap (λ ids. own ∷ (n.id, ids_or end_node (ids_at w ids)) ∷ []) (none_behind (needs w) (places_of w) places_one needs_none)
       ∙ ap (λ ids. (start_node, ids) ∷ (n.id, end_node ∷ []) ∷ []) ids_one
 

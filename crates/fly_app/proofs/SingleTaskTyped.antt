@@ -95,6 +95,7 @@ type_of-integers (v ∷ vs) name h has = at_first (bytes_eq v.name name) refl (t
     in_tail : (k : ℕ) → k < length (names_of (v ∷ vs)) → get_or (names_of (v ∷ vs)) k name ≡ name → bytes_eq v.name name ≡ false → Contains (names_of vs) name
     in_tail zero within e other = let same : bytes_eq v.name name ≡ true = (bytes_eq-Decides v.name name).1 e in absurd (cc)
     in_tail (suc k) within e other = (k, omega arith, e)
+
     at_first : (r : Bool) → bytes_eq v.name name ≡ r → (Contains (names_of vs) name → type_of name vs ≡ Some integer) → type_of name (v ∷ vs) ≡ Some integer
     at_first true is rest = rw is (ap Some h.0)
     at_first false is rest = rw is (rest (in_tail has.0 has.1 has.2 is))
@@ -172,8 +173,14 @@ module _ (b : Bundle) (t : Task) (w : Workflow) (n : Node) (f : RunsOneTask b t 
 
   from_node : (name : Text) → Contains (names_of t.interface.outputs) name → source_of b w (source_node n.id, name) ≡ of_type integer
   from_node name has =
-      rw (source_node-id n.id f.node.id.some, apart, nodes_one b t w n f, same_text n.id, found_outputs,
-          type_of-integers t.interface.outputs name (recursion_from_All _ t.interface.outputs f.task.interface.outputs.kinds) has)
+      rw (
+        source_node-id n.id f.node.id.some,
+        apart,
+        nodes_one b t w n f,
+        same_text n.id,
+        found_outputs,
+        type_of-integers t.interface.outputs name (recursion_from_All _ t.interface.outputs f.task.interface.outputs.kinds) has,
+      )
 
   typed_plain : IsTypedPlain b w n
   typed_plain = record {
