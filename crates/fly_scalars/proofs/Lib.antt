@@ -1,0 +1,4 @@
+pub mod DigitLemmas
+pub mod WholeLemmas
+pub mod DatetimeLemmas
+pub mod DurationLemmas

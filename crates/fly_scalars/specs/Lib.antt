@@ -1,0 +1,5 @@
+pub mod Digits
+pub mod Whole
+pub mod Datetime
+pub mod Duration
+pub mod Binary
