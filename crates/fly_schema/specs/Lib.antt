@@ -1,0 +1,10 @@
+pub mod Faults
+pub mod Found
+pub mod Lookups
+pub mod Places
+pub mod Reports
+pub mod Scalars
+pub mod Structs
+pub mod Table
+pub mod There
+pub mod Views
