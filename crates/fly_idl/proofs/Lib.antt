@@ -1,0 +1,16 @@
+mod Bounded
+mod Bounds
+mod Clear
+mod Form
+mod Ids
+mod Kept
+mod Ordered
+mod Readable
+mod ReadingLemmas
+mod SayingLemmas
+mod SoundBundle
+mod SoundLiterals
+mod SoundMaps
+mod SoundScalars
+mod SoundTrees
+mod SoundTypes

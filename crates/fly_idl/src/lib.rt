@@ -1,0 +1,11 @@
+//! Documents read: bytes turned into bundles, submissions, literal maps and what a child said, or the first rule that they break.
+#![tactic(auto)]
+
+mod documents;
+mod readers;
+mod rows;
+#[cfg(test)]
+mod tests;
+
+pub use fly_schema::{DocFault, DocKind};
+pub use readers::{read_bundle, read_literal_map, read_said, read_submissions};
