@@ -1,0 +1,5 @@
+pub mod Layers
+pub mod NodeLayers
+pub mod Floats
+pub mod MessageLemmas
+pub mod ScalarTexts

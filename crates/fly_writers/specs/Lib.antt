@@ -1,0 +1,9 @@
+pub mod Json
+pub mod Built
+pub mod Types
+pub mod Literals
+pub mod Bindings
+pub mod Conditions
+pub mod Nodes
+pub mod Documents
+pub mod Closures
