@@ -1,0 +1,10 @@
+pub mod PlaceLemmas
+pub mod Numbered
+pub mod RepeatLemmas
+pub mod InnerNodes
+pub mod LayoutLemmas
+pub mod SearchLemmas
+pub mod TotalLemmas
+pub mod PlanLemmas
+pub mod ReachLemmas
+pub mod RunLemmas
