@@ -25,22 +25,22 @@ use Rattle.fly_compile.specs.FaultList.{limit_faults, faults_of}
 
 -- ---- small documents
 
-abbrev integer : LiteralType
+abbrev pub integer : LiteralType
 integer = type.Simple simple.Integer
 
-abbrev text : LiteralType
+abbrev pub text : LiteralType
 text = type.Simple simple.Text
 
-abbrev id : Text → Identifier
+abbrev pub id : Text → Identifier
 id name = record { project = codes "p"; domain = codes "d"; name = name; version = codes "1" }
 
-abbrev var : Text → LiteralType → Variable
+abbrev pub var : Text → LiteralType → Variable
 var name kind = record { name = name; kind = kind }
 
-abbrev interface : List Variable → List Variable → Interface
+abbrev pub interface : List Variable → List Variable → Interface
 interface inputs outputs = record { inputs = inputs; outputs = outputs }
 
-abbrev task : Text → List Variable → List Variable → List Text → Task
+abbrev pub task : Text → List Variable → List Variable → List Text → Task
 task name inputs outputs args = record {
   id = id name;
   cached = false;
@@ -53,10 +53,10 @@ task name inputs outputs args = record {
   args = args;
 }
 
-abbrev promise : Text → Text → Text → Binding
+abbrev pub promise : Text → Text → Text → Binding
 promise name node output = record { var = name; bound = bound.Promise node output }
 
-abbrev node : Text → Text → List Binding → List Text → Node
+abbrev pub node : Text → Text → List Binding → List Text → Node
 node name runs inputs upstream = record {
   id = name;
   timeout_ms = 0;
@@ -66,7 +66,7 @@ node name runs inputs upstream = record {
   target = target.Task (id runs);
 }
 
-abbrev workflow : List Node → List Variable → List Variable → List Binding → Workflow
+abbrev pub workflow : List Node → List Variable → List Variable → List Binding → Workflow
 workflow nodes inputs outputs bindings = record {
   id = id (codes "w");
   fail_late = false;
@@ -75,13 +75,13 @@ workflow nodes inputs outputs bindings = record {
   outputs = bindings;
 }
 
-abbrev bundle : List Task → Workflow → Bundle
+abbrev pub bundle : List Task → Workflow → Bundle
 bundle tasks w = record { tasks = tasks; workflows = w ∷ []; primary = id (codes "w") }
 
-abbrev inc : Task
+abbrev pub inc : Task
 inc = task (codes "inc") (var (codes "x") integer ∷ []) (var (codes "y") integer ∷ []) []
 
-abbrev say : Task
+abbrev pub say : Task
 say = task (codes "say") (var (codes "s") text ∷ []) [] []
 
 -- ---- rows
@@ -91,19 +91,19 @@ unfolding reaches goes_on plan_within
 nothing_to_compile = refl
 
 -- a node that runs `go`, which takes and gives nothing, after these nodes
-abbrev after : Text → List Text → Node
+abbrev pub after : Text → List Text → Node
 after name upstream = node name (codes "go") [] upstream
 
-abbrev steps : List Node → Bundle
+abbrev pub steps : List Node → Bundle
 steps nodes = bundle (task (codes "go") [] [] [] ∷ []) (workflow nodes [] [] [])
 
-abbrev go : Identifier
+abbrev pub go : Identifier
 go = id (codes "go")
 
-no_inside : (name : Text) (upstream : List Text) → inner_nodes (after name upstream) ≡ []
+pub no_inside : (name : Text) (upstream : List Text) → inner_nodes (after name upstream) ≡ []
 no_inside name upstream = inner_nodes-task (after name upstream) go (view.outs-Task go)
 
-no_array : (name : Text) (upstream : List Text) → is_array (after name upstream) ≡ false
+pub no_array : (name : Text) (upstream : List Text) → is_array (after name upstream) ≡ false
 no_array name upstream = ap is_array_target (view.outs-Task go)
 
 abbrev alone : List Text → Node

@@ -1,5 +1,5 @@
 -- The text of a type in a line of the compiler's report. It is this project's own.
-use Rattle.std.specs.Prelude.{if◌then◌else◌, List, ◌++◌, codes}
+use Rattle.std.specs.Prelude.{ℕ, zero, suc, if◌then◌else◌, List, [], ◌++◌, codes}
 use Rattle.std.specs.List.{join_by}
 use Rattle.serde_json.specs.Data.{string}
 use Rattle.serde_json.specs.Written.{compact_text}
@@ -30,6 +30,11 @@ simple_text simple.Struct = codes "STRUCT"
 
 abbrev pub blob_text : BlobType → Text
 blob_text form = codes "blob(" ++ quoted form.format ++ codes "," ++ (if form.multipart then codes "MULTIPART" else codes "SINGLE") ++ codes ")"
+
+-- what stands before the part at a place of a list
+abbrev pub separator : ℕ → Text
+separator zero = []
+separator (suc place) = codes ","
 
 -- the texts of the parts, with commas between them
 abbrev pub listed : {X : Type 0} → (X → Text) → List X → Text

@@ -1,0 +1,11 @@
+use Rattle.fly_compile.specs.declared.fault.Code.TheVariants as code
+use Rattle.fly_compile.specs.BindingFaults.{is_no_node}
+use Rattle.fly_compile.specs.Places.{fault_with}
+use Rattle.fly_compile.specs.Promises.{known}
+use Rattle.fly_compile.proofs.Loops.{filtered_more}
+use Rattle.fly_compile.proofs.binding_faults.push_node_faults.Goals as goal
+
+pub loop-promise-preserved : goal.loop-promise-preserved
+loop-promise-preserved c =
+    filtered_more (λ promise. is_no_node (known promise).1) (λ promise. fault_with code.NodeNotFound c.args.place.now (known promise).0.0)
+    _ _ c.promise-item.result _ _ _ c.loop-promise-test.true c.promise-item.is c.loop-promise.invariant c.in_ok-push_node_fault.ensures

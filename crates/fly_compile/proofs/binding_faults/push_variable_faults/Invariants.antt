@@ -1,0 +1,12 @@
+use Rattle.std.proofs.Common.{◌≡◌, ◌++◌, map, take, filter, codes}
+use Rattle.fly_compile.specs.declared.fault.Code.TheVariants as code
+use Rattle.fly_compile.specs.BindingFaults.{is_no_variable}
+use Rattle.fly_compile.specs.Places.{fault_with}
+use Rattle.fly_compile.specs.Promises.{known}
+use Rattle.fly_compile.proofs.binding_faults.push_variable_faults.Given as goal
+
+abbrev pub invariant-loop-promise : goal.invariant-loop-promise
+invariant-loop-promise l =
+    l.faults.items ≡ l.initial.faults.items
+    ++ map (λ promise. fault_with code.VariableNotFound l.place ((known promise).0.0 ++ codes "." ++ (known promise).0.1))
+    (filter (λ promise. is_no_variable (known promise).1) (take l.promise-index l.promises))

@@ -1,0 +1,22 @@
+use Rattle.std.proofs.Common.{Option, Some, None, sym, ap, is_some}
+use Rattle.std.specs.Prelude.{if◌then◌else◌}
+use Rattle.std.specs.Option.{option_map, option_and_then}
+use Rattle.fly_types.specs.declared.text.Text.{Text}
+use Rattle.fly_docs.specs.declared.workflow.Workflow.{Workflow}
+use Rattle.fly_docs.specs.Interfaces.{type_of}
+use Rattle.fly_docs.specs.NodeInterfaces.{Found, Wanted, value}
+use Rattle.fly_compile.proofs.OutputLemmas.{workflow_in_form}
+use Rattle.fly_compile.proofs.node_inputs.workflow_inputs.Goals as goal
+
+abbrev found : Option Workflow → Found
+found o = option_map (λ (t : Workflow). t.interface.inputs) o
+
+abbrev wanted : Option Workflow → Option (Text → Option Wanted)
+wanted o = if is_some (found o) then Some (λ name. option_and_then (λ variables. option_map value (type_of name variables)) (found o)) else None
+
+pub returns-in-Some : goal.returns-in-Some
+returns-in-Some c = record {
+  wanted = ap wanted c.in-Some.ensures;
+  variables = ap found c.in-Some.ensures;
+  sorted = (workflow_in_form c.args.directory.now c.args.id.now c.in-Some.workflow.now c.requires (sym c.in-Some.ensures)).interface.inputs;
+}
