@@ -1,0 +1,9 @@
+pub mod CachedLemmas
+pub mod CatalogLemmas
+pub mod Finds
+pub mod IndexLemmas
+pub mod KeyLemmas
+pub mod MapLemmas
+pub mod NameLemmas
+pub mod ReservationLemmas
+pub mod TableLemmas
