@@ -1,0 +1,5 @@
+pub mod Examples
+pub mod FinalLemmas
+pub mod NameLemmas
+pub mod PlaceLemmas
+pub mod PlanLemmas

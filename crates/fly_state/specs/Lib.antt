@@ -1,0 +1,9 @@
+pub mod Plans
+pub mod PlanTables
+pub mod States
+pub mod Standing
+pub mod Inputs
+pub mod Moves
+pub mod Rounds
+pub mod OfPlan
+pub mod Laws
