@@ -1,5 +1,5 @@
 -- What is written or appended in several parts.
-use Rattle.std.proofs.Common.{◌≡◌, ◌+◌, ℕ, zero, suc, List, [], ◌∷◌, ◌++◌, length, take, Option, None, Some, refl, sym, ◌∙◌, ap, inl, inr, append_assoc, unwrap_or, arith}
+use Rattle.std.proofs.Common.{◌≡◌, ◌+◌, ℕ, zero, suc, List, [], ◌∷◌, ◌++◌, length, take, Option, None, Some, refl, sym, ◌∙◌, ap, inl, inr, append_assoc, length-append, unwrap_or, arith}
 use mathlib.Core.Path.{fun_ext}
 use Rattle.std.specs.Prelude.{bytes_eq}
 use Rattle.std.specs.Io.KnownBytes.{append_known}
@@ -9,7 +9,7 @@ use Rattle.std.proofs.lemmas.Bool.{cases_Bool}
 use Rattle.std.proofs.lemmas.Slice.Eq.{bytes_eq-Decides}
 use Rattle.fly_ports.specs.Faults.{Rises}
 use Rattle.fly_ports.specs.Files.{Contents, contents_with, known_with, AppendsPart}
-use Rattle.fly_ports.specs.Sink.{SinkState, Writes, FailsToWrite}
+use Rattle.fly_ports.specs.Sink.{SinkState, asked_after, Writes, FailsToWrite, FailsWithin}
 
 -- a first part of a list is one of a longer list
 pub take-front : (a b : List ℕ) (n : ℕ) → (m : ℕ) × (take m (a ++ b) ≡ take n a)
@@ -35,35 +35,42 @@ pub Rises-later : (old mid new : ℕ) → Rises old mid → mid ≡ new → Rise
 Rises-later old mid new rise same = record { later = omega (arith, rise.later, same); next = omega (arith, rise.next, same) }
 
 -- two writes are one of all the bytes
+asked_after-append : (asked : ℕ) (a b : List ℕ) → asked_after (asked_after asked a) b ≡ asked_after asked (a ++ b)
+asked_after-append asked a b = let both = length-append a b in grind (arith, both)
+
 pub Writes-then : (old mid new : SinkState) (a b : List ℕ) → Writes old mid a → Writes mid new b → Writes old new (a ++ b)
 Writes-then old mid new a b first then = record {
   written = then.written ∙ ap (λ (known : Option (List ℕ)). append_known known b) first.written ∙ append_known-append old.written a b;
+  asked = then.asked ∙ ap (λ (asked : ℕ). asked_after asked b) first.asked ∙ asked_after-append old.asked a b;
   faults = then.faults ∙ first.faults;
 }
 
 -- a write of more bytes fails where one of the first of them does
-pub FailsToWrite-first : (old new : SinkState) (a b : List ℕ) → FailsToWrite old new a → FailsToWrite old new (a ++ b)
-FailsToWrite-first old new a b fails =
-    let front = take-front a b fails.count in
-    record {
-      count = front.0;
-      written = fails.written ∙ ap (λ (l : List ℕ). append_known old.written l) (sym front.1);
-      faults = fails.faults;
-    }
+pub FailsWithin-first : (old new : SinkState) (a b : List ℕ) → FailsWithin old new a → FailsWithin old new (a ++ b)
+FailsWithin-first old new a b fails = record {
+  front = fails.front;
+  part = fails.part;
+  rest = fails.rest ++ b;
+  whole = ap (λ (l : List ℕ). l ++ b) fails.whole ∙ append_assoc fails.front (fails.part ++ fails.rest) b
+      ∙ ap (λ (l : List ℕ). fails.front ++ l) (append_assoc fails.part fails.rest b);
+  some = fails.some;
+  between = fails.between;
+  first = fails.first;
+  fails = fails.fails;
+}
 
 -- or where one of the rest does
-pub FailsToWrite-then : (old mid new : SinkState) (a b : List ℕ) → Writes old mid a → FailsToWrite mid new b → FailsToWrite old new (a ++ b)
-FailsToWrite-then old mid new a b first fails =
-    let all = take-past a b fails.count in
-    record {
-      count = all.0;
-      written =
-          fails.written
-          ∙ ap (λ (known : Option (List ℕ)). append_known known (take fails.count b)) first.written
-          ∙ append_known-append old.written a (take fails.count b)
-          ∙ ap (λ (l : List ℕ). append_known old.written l) (sym all.1);
-      faults = record { later = omega (arith, fails.faults.later, first.faults); next = omega (arith, fails.faults.next, first.faults) };
-    }
+pub FailsWithin-then : (old mid new : SinkState) (a b : List ℕ) → Writes old mid a → FailsWithin mid new b → FailsWithin old new (a ++ b)
+FailsWithin-then old mid new a b first fails = record {
+  front = a ++ fails.front;
+  part = fails.part;
+  rest = fails.rest;
+  whole = ap (λ (l : List ℕ). a ++ l) fails.whole ∙ sym (append_assoc a fails.front (fails.part ++ fails.rest));
+  some = fails.some;
+  between = fails.between;
+  first = Writes-then old mid fails.between a fails.front first fails.first;
+  fails = fails.fails;
+}
 
 -- ---- files
 

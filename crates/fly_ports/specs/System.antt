@@ -25,6 +25,10 @@ writer sink = sink.writer
 abbrev pub faults : {W : Type 0} → OsSink W → ℕ
 faults sink = sink.faults
 
--- the count of the sink, which tells no bytes
+-- how many bytes writes were asked for
+abbrev pub asked : {W : Type 0} → OsSink W → ℕ
+asked sink = sink.asked
+
+-- the counts of the sink, which tells no bytes
 abbrev pub sink_state : {W : Type 0} → OsSink W → SinkState
-sink_state sink = record { written = None; faults = faults sink }
+sink_state sink = record { written = None; asked = asked sink; faults = faults sink }

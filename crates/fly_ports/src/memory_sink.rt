@@ -14,6 +14,7 @@ pub struct MemSink {
     room: u64,
     bad: List<u64>,
     calls: u64,
+    asked: u64,
     faults: u64,
 }
 
@@ -23,7 +24,7 @@ impl Model for MemSink {
 
     ghost Value = { SinkMemory };
 
-    ghost view = { λ s. record { written = s.written.items; room = s.room; bad = s.bad; calls = s.calls; faults = s.faults } };
+    ghost view = { λ s. record { written = s.written.items; room = s.room; bad = s.bad; calls = s.calls; asked = s.asked; faults = s.faults } };
 
     ghost invariant = { λ s. s.room ≤ vec_capacity s.written };
 }
@@ -42,6 +43,7 @@ impl MemSink {
             room,
             bad,
             calls: 0,
+            asked: 0,
             faults: 0,
         })
     }
@@ -51,6 +53,13 @@ impl MemSink {
         ensures { result.now ≡ self.now.written }
     {
         &self.written
+    }
+
+    /// How many bytes calls were asked to write.
+    pub fn asked(&self) -> u64
+        ensures { result ≡ self.now.asked }
+    {
+        self.asked
     }
 
     /// How many calls have failed.
@@ -73,6 +82,7 @@ impl Sink for MemSink {
         ensures after { self.new ≡ sink_after self.old bytes.now }
     {
         self.calls = self.calls.saturating_add(1);
+        self.asked = self.asked.saturating_add(bytes.len() as u64);
         let is_bad = self.bad.as_slice().contains(&self.calls);
         if !is_bad && add_within(&mut self.written, self.room, bytes) {
             Ok(())

@@ -117,6 +117,7 @@ impl<'r, R: rt::Files> Files for OsFiles<'r, R> {
 #[derive(Drop)]
 pub struct OsSink<W> {
     writer: W,
+    asked: u64,
     faults: u64,
 }
 
@@ -129,6 +130,7 @@ impl<W: Write> OsSink<W> {
     {
         OsSink {
             writer: inner,
+            asked: 0,
             faults: 0,
         }
     }
@@ -166,6 +168,7 @@ impl<W: Write> Sink for OsSink<W> {
         // A writer that tells its bytes has got all of these.
         ensures passed { OnOk result (Appends (W.contents (writer self.old)) (W.contents (writer self.new)) bytes.now) }
     {
+        self.asked = self.asked.saturating_add(bytes.len() as u64);
         match write_out(&mut self.writer, bytes) {
             Ok(()) => Ok(()),
             Err(_) => {

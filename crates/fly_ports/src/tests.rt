@@ -102,7 +102,7 @@ fn a_sink_fills_up(rt: HostRuntime) -> Result<(), Fail> {
     assert_eq!(rt; sink.put(b"d"), Err(WriteFault::Failed));
     assert_eq!(rt; sink.put(b"def"), Err(WriteFault::Failed));
     assert_eq!(rt; sink.bytes(), b"abcde".as_slice());
-    assert_eq!(rt; sink.faults(), 2);
+    assert_eq!(rt; (sink.asked(), sink.faults()), (7, 2));
     Ok(())
 }
 
