@@ -1,5 +1,5 @@
 -- How commands end.
-use Rattle.std.proofs.Common.{◌≡◌, ◌≢◌, ◌⊎◌, ℕ, List, Option, Some, None, Result, Ok, Err, IfOk, MatchResult, String, Global, string_bytes, subst, refl, sym, ap, ◌∙◌, inl, inr, arith}
+use Rattle.std.proofs.Common.{◌≡◌, ◌≢◌, ◌⊎◌, ℕ, List, Option, Some, None, Result, Ok, Err, IfOk, MatchResult, String, Global, string_bytes, subst, refl, sym, ◌∙◌, inl, inr, arith}
 use Rattle.fly_types.specs.declared.memory.NoMemory.{NoMemory}
 use Rattle.fly_ports.specs.Faults.{Rises}
 use Rattle.fly_ports.specs.Files.{Contents, FilesState, Lacks, FailsToRead}
@@ -7,16 +7,17 @@ use Rattle.fly_ports.specs.Sink.{SinkState, Writes, FailsToWrite, Tries}
 use Rattle.fly_docs.specs.declared.workflow.Bundle.{Bundle}
 use Rattle.fly_app.specs.declared.faults.DocKind.{DocKind}
 use Rattle.fly_app.specs.declared.faults.DocKind.TheVariants as kinds
-use Rattle.fly_app.specs.declared.closure_of_file.ClosureFault.{ClosureFault}
-use Rattle.fly_app.specs.declared.closure_of_file.ClosureFault.TheVariants as faults
-use Rattle.fly_app.specs.ClosureOfFile.{CompilesFile}
+use Rattle.fly_app.specs.Documents.{bundle_json}
+use Rattle.fly_app.specs.Reading.{Reads, FirstFault}
 use Rattle.fly_app.specs.declared.status.Status.{Status}
 use Rattle.fly_app.specs.declared.status.Status.TheVariants as statuses
-use Rattle.fly_app.specs.Documents.{bundle_json}
-use Rattle.fly_app.specs.Words.{IsCompile, IsFirstWrong}
-use Rattle.fly_app.specs.Reading.{Reads, FirstFault}
+use Rattle.fly_app.specs.Words.{Request, compile, help, version, IsRequest}
+use Rattle.fly_app.specs.Outside.{outside, Outside, IsContent, IsTold, IsUnread, WritesAll}
 use Rattle.fly_app.specs.Printing.{PrintsText, SaysLine, FailsToSay, no_memory_text}
-use Rattle.fly_app.specs.Commands.{outside, Outside, IsContent, IsThere, IsAbsent, HasClosure, HasFault, IsUnread, Answer, Text, WrongWord, Refusal, Unread, Asks, status_of, SaysOnly, SaysPart, Prints, FailsToPrint, RunsCommand, EndsWith}
+use Rattle.fly_app.specs.declared.compiling.Unanswered.{Unanswered}
+use Rattle.fly_app.specs.declared.compiling.Unanswered.TheVariants as unanswered
+use Rattle.fly_app.specs.Compiling.{CompilesFile}
+use Rattle.fly_app.specs.Answers.{HasClosure, Answer, Text, WrongWord, Refusal, Unread, HasText, HasRefusal, Wants, Asks, status_of, SaysOnly, SaysPart, Prints, FailsToPrint, HasDone, IsKnown, IsAbsent, IsDue, EndsWith, RunsCommand}
 
 -- ---- what a run of a command has done
 
@@ -24,61 +25,81 @@ use Rattle.fly_app.specs.Commands.{outside, Outside, IsContent, IsThere, IsAbsen
 files_kept : (words : List (List ℕ)) (old new : FilesState) (a : Answer) → Asks words old new a → (new ≡ old) ⊎ FailsToRead old new
 files_kept words old new (Text text) asked = inl asked.3
 files_kept words old new (WrongWord k) asked = inl asked.1
-files_kept words old new (Refusal kind) asked = inl asked.3
-files_kept words old new (Unread path) (is, inl fails) = inr fails
-files_kept words old new (Unread path) (is, inr lacks) = inl lacks.0
+files_kept words old new (Refusal lines) asked = inl asked.3
+files_kept words old new (Unread path) (r, is, wants, inl fails) = inr fails
+files_kept words old new (Unread path) (r, is, wants, inr lacks) = inl lacks.0
 
--- a line was said for an answer that has one
-pub runs_line : (words : List (List ℕ)) (old new : FilesState) (out err new_err : SinkState) (a : Answer) (text : List ℕ) (line : Result (String Global) NoMemory) (status : Status)
+-- lines were said for an answer that has some
+pub done_line : (words : List (List ℕ)) (old new : FilesState) (out err new_err : SinkState) (a : Answer) (text : List ℕ) (line : Result (String Global) NoMemory) (status : Status)
     → Asks words old new a
     → (SaysOnly (outside old out err) (outside new out new_err) text → Prints (outside old out err) (outside new out new_err) a)
     → (SaysPart (outside old out err) (outside new out new_err) text → FailsToPrint (outside old out err) (outside new out new_err) a)
     → IfOk line (λ l. string_bytes l ≡ text)
     → MatchResult line (λ l. SaysLine err new_err (string_bytes l) (status_of a) status) (λ e. (status ≡ statuses.NoMemory) × Tries err new_err no_memory_text)
-    → RunsCommand words (outside old out err) (outside new out new_err) status
-runs_line words old new out err new_err a text (Ok l) status asked prints fails is (inl said) =
+    → HasDone words (outside old out err) (outside new out new_err) status
+done_line words old new out err new_err a text (Ok l) status asked prints fails is (inl said) =
     inl (record { answer = a; asked = asked; printed = prints (refl, subst (λ (t : List ℕ). Writes err new_err t) is said.1); ends = said.0 })
-runs_line words old new out err new_err a text (Ok l) status asked prints fails is (inr part) =
+done_line words old new out err new_err a text (Ok l) status asked prints fails is (inr part) =
     inr (inl (record { answer = a; asked = asked; printed = fails (refl, subst (λ (t : List ℕ). FailsToSay err new_err t) is part.1); ends = part.0 }))
-runs_line words old new out err new_err a text (Err e) status asked prints fails is none =
+done_line words old new out err new_err a text (Err e) status asked prints fails is none =
     inr (inr (record { files = files_kept words old new a asked; out = refl; err = none.1; ends = none.0 }))
 
--- a closure's text was printed
-pub runs_text : (words : List (List ℕ)) (old new : FilesState) (out new_out err new_err : SinkState) (path text : List ℕ) (status : Status) → IsCompile words path → HasClosure old.contents path text
-    → new ≡ old → PrintsText out new_out err new_err text status → RunsCommand words (outside old out err) (outside new new_out new_err) status
-runs_text words old new out new_out err new_err path text status command has same (inl printed) =
-    inl (record { answer = Text text; asked = (path, command, has, same); printed = (printed.1, printed.2); ends = printed.0 })
-runs_text words old new out new_out err new_err path text status command has same (inr part) =
-    inr (inl (record { answer = Text text; asked = (path, command, has, same); printed = (part.1, part.2); ends = part.0 }))
+-- the text of a request was printed
+pub done_text : (words : List (List ℕ)) (old new : FilesState) (out new_out err new_err : SinkState) (r : Request) (text : List ℕ) (status : Status) → IsRequest words r
+    → HasText old.contents r text → new ≡ old → PrintsText out new_out err new_err text status → HasDone words (outside old out err) (outside new new_out new_err) status
+done_text words old new out new_out err new_err r text status command has same (inl printed) =
+    inl (record { answer = Text text; asked = (r, command, has, same); printed = (printed.1, printed.2); ends = printed.0 })
+done_text words old new out new_out err new_err r text status command has same (inr part) =
+    inr (inl (record { answer = Text text; asked = (r, command, has, same); printed = (part.1, part.2); ends = part.0 }))
+
+-- there was no memory
+pub done_none : (words : List (List ℕ)) (old new : FilesState) (out err new_err : SinkState) (status : Status) → new ≡ old → status ≡ statuses.NoMemory
+    → Tries err new_err no_memory_text → HasDone words (outside old out err) (outside new out new_err) status
+done_none words old new out err new_err status same is tried = inr (inr (record { files = inl same; out = refl; err = tried; ends = is }))
 
 -- ---- what compiling a file says of its fault
 
-pub refusal_of : (old new : FilesState) (path : List ℕ) (fault : ClosureFault) (kind : DocKind) → fault ≡ faults.Refused kind → CompilesFile old new path (Err fault) → HasFault old.contents path kind × (new ≡ old)
-refusal_of old new path fault kind is why = rw is at why
+pub refusal_of : (old new : FilesState) (path : List ℕ) (fault : Unanswered) (lines : String Global) → fault ≡ unanswered.Refused lines → CompilesFile old new path (Err fault)
+    → HasRefusal old.contents (compile path) (string_bytes lines) × (new ≡ old)
+refusal_of old new path fault lines is why = rw is at why
 
-pub unread_of : (old new : FilesState) (path : List ℕ) (fault : ClosureFault) → fault ≡ faults.Unread → CompilesFile old new path (Err fault) → IsUnread old new path
+pub unread_of : (old new : FilesState) (path : List ℕ) (fault : Unanswered) → fault ≡ unanswered.Unread → CompilesFile old new path (Err fault) → IsUnread old new path
 unread_of old new path fault is why = rw is at why
 
 -- ---- which answer is due
 
-one_path : (words : List (List ℕ)) (p q : List ℕ) → IsCompile words p → IsCompile words q → p ≡ q
-one_path words p q a b = let same = sym a.spelled ∙ b.spelled in cc same
+-- words ask for one thing
+one_request : (words : List (List ℕ)) (r s : Request) → IsRequest words r → IsRequest words s → r ≡ s
+one_request words (compile p) (compile q) a b = let same = sym a.spelled ∙ b.spelled in cc same
+one_request words (compile p) help a b = let same = sym a.spelled ∙ b in absurd (cc same)
+one_request words (compile p) version a b = let same = sym a.spelled ∙ b in absurd (cc same)
+one_request words help (compile q) a b = let same = sym a ∙ b.spelled in absurd (cc same)
+one_request words help help a b = refl
+one_request words help version a b = let same = sym a ∙ b in absurd (cc same)
+one_request words version (compile q) a b = let same = sym a ∙ b.spelled in absurd (cc same)
+one_request words version help a b = let same = sym a ∙ b in absurd (cc same)
+one_request words version version a b = refl
 
 -- of files that are told, one is there or none
-not_absent : (contents : Option Contents) (path p file : List ℕ) → IsAbsent contents path → p ≡ path → IsContent contents p file → ⊥
-not_absent contents path p file absent same content =
-    let held : absent.0 p ≡ Some file = rw absent.1 at content in
-    let none : Some file ≡ None = sym held ∙ ap absent.0 same ∙ absent.2 in cc
+one_content : (contents : Option Contents) (path f g : List ℕ) → IsTold contents → IsContent contents path f → IsContent contents path g → f ≡ g
+one_content contents path f g told a b =
+    let first : told.0 path ≡ Some f = rw told.1 at a in
+    let second : told.0 path ≡ Some g = rw told.1 at b in
+    let both : Some f ≡ Some g = sym first ∙ second in cc
 
-one_file : (contents : Option Contents) (path p f g : List ℕ) → IsThere contents path f → p ≡ path → IsContent contents p g → g ≡ f
-one_file contents path p f g there same content =
-    let held : there.0 p ≡ Some g = rw there.1 at content in
-    let both : Some g ≡ Some f = sym held ∙ ap there.0 same ∙ there.2 in cc
+not_lacking : (contents : Option Contents) (path file : List ℕ) → IsTold contents → IsContent contents path file → Lacks contents path → ⊥
+not_lacking contents path file told there lacks =
+    let some : told.0 path ≡ Some file = rw told.1 at there in
+    let none : told.0 path ≡ None = rw told.1 at lacks in
+    let both : Some file ≡ None = sym some ∙ none in cc
 
-not_lacking : (contents : Option Contents) (path file : List ℕ) → IsThere contents path file → Lacks contents path → ⊥
-not_lacking contents path file there lacks =
-    let none : there.0 path ≡ None = rw there.1 at lacks in
-    let both : Some file ≡ None = sym there.2 ∙ none in cc
+absent_told : (contents : Option Contents) (path : List ℕ) → IsAbsent contents path → IsTold contents
+absent_told contents path absent = (absent.0, absent.1)
+
+absent_lacks : (contents : Option Contents) (path file : List ℕ) → IsAbsent contents path → IsContent contents path file → ⊥
+absent_lacks contents path file absent there =
+    let some : absent.0 path ≡ Some file = rw absent.1 at there in
+    let both : Some file ≡ None = sym some ∙ absent.2 in cc
 
 -- a document with a fault is no bundle's
 not_both : (file : List ℕ) (kind : DocKind) (b : Bundle) → FirstFault file kind → kind ≢ kinds.NoMemory → Reads file b → ⊥
@@ -87,74 +108,116 @@ not_both file kinds.NotJson b fault known reads = fault.1 (bundle_json b) reads.
 not_both file kinds.NotBuilt b fault known reads = fault.2 b reads
 not_both file kinds.NoMemory b fault known reads = known refl
 
-read_if_there : (old new : FilesState) (path p file : List ℕ) → IsThere old.contents path file → (Rises old.read_faults new.read_faults → ⊥) → p ≡ path → IsUnread old new p → ⊥
-read_if_there old new path p file there calm same (inl fails) = calm fails.read_faults
-read_if_there old new path p file there calm same (inr lacks) = not_lacking old.contents path file there (subst (λ (q : List ℕ). Lacks old.contents q) same lacks.1)
+-- a bundle's file is not refused
+text_refused : (contents : Option Contents) (path text lines : List ℕ) → IsTold contents → HasClosure contents path text → HasRefusal contents (compile path) lines → ⊥
+text_refused contents path text lines told has refused =
+    let same = one_content contents path has.file refused.file told has.content refused.content in
+    not_both refused.file refused.kind has.bundle refused.fault refused.known (subst (λ (f : List ℕ). Reads f has.bundle) same has.reads)
 
-usage_answer : (words : List (List ℕ)) (k : ℕ) (old new : FilesState) (a : Answer) → IsFirstWrong words k → Asks words old new a → status_of a ≡ statuses.Usage
-usage_answer words k old new (Text text) wrong asked = absurd (wrong.whole (asked.0, asked.1))
-usage_answer words k old new (WrongWord n) wrong asked = refl
-usage_answer words k old new (Refusal kind) wrong asked = absurd (wrong.whole (asked.0, asked.1))
-usage_answer words k old new (Unread path) wrong asked = absurd (wrong.whole (path, asked.0))
+refusal_content : (contents : Option Contents) (path lines : List ℕ) → HasRefusal contents (compile path) lines → (file : List ℕ) × IsContent contents path file
+refusal_content contents path lines refused = (refused.file, refused.content)
 
-unread_answer : (words : List (List ℕ)) (path : List ℕ) (old new : FilesState) (a : Answer) → IsCompile words path → IsAbsent old.contents path → Asks words old new a → status_of a ≡ statuses.ReadFault
-unread_answer words path old new (Text text) is absent asked = absurd (not_absent old.contents path asked.0 asked.2.file absent (one_path words asked.0 path asked.1 is) asked.2.content)
-unread_answer words path old new (WrongWord n) is absent asked = absurd (asked.0.whole (path, is))
-unread_answer words path old new (Refusal kind) is absent asked = absurd (not_absent old.contents path asked.0 asked.2.file absent (one_path words asked.0 path asked.1 is) asked.2.content)
-unread_answer words path old new (Unread p) is absent asked = refl
+-- of a request that is known, one answer is the right one
+text_only : (r : Request) (old new : FilesState) (text lines : List ℕ) → IsKnown r old new → HasText old.contents r text → HasRefusal old.contents r lines → ⊥
+text_only (compile path) old new text lines known has refusal = text_refused old.contents path text lines known.0 has refusal
+text_only help old new text lines known has refusal = refusal
+text_only version old new text lines known has refusal = refusal
 
-refused_answer : (words : List (List ℕ)) (path file : List ℕ) (kind : DocKind) (old new : FilesState) (a : Answer) → IsCompile words path → IsThere old.contents path file → FirstFault file kind
-    → kind ≢ kinds.NoMemory → (Rises old.read_faults new.read_faults → ⊥) → Asks words old new a → status_of a ≡ statuses.Refused
-refused_answer words path file kind old new (Text text) is there fault known calm asked =
-    let same = one_file old.contents path asked.0 file asked.2.file there (one_path words asked.0 path asked.1 is) asked.2.content in
-    absurd (not_both file kind asked.2.bundle fault known (subst (λ (f : List ℕ). Reads f asked.2.bundle) same asked.2.reads))
-refused_answer words path file kind old new (WrongWord n) is there fault known calm asked = absurd (asked.0.whole (path, is))
-refused_answer words path file kind old new (Refusal other) is there fault known calm asked = refl
-refused_answer words path file kind old new (Unread p) is there fault known calm asked =
-    absurd (read_if_there old new path p file there calm (one_path words p path asked.0 is) asked.1)
+text_read : (r : Request) (old new : FilesState) (text path : List ℕ) → IsKnown r old new → HasText old.contents r text → Wants r path → IsUnread old new path → ⊥
+text_read (compile p) old new text path known has wants (inl fails) = known.1 fails.read_faults
+text_read (compile p) old new text path known has wants (inr lacks) =
+    not_lacking old.contents p has.file known.0 has.content (subst (λ (q : List ℕ). Lacks old.contents q) wants lacks.1)
+text_read help old new text path known has wants unread = wants
+text_read version old new text path known has wants unread = wants
 
--- where the file is a document, the answer is a text
-text_answer : (words : List (List ℕ)) (path file : List ℕ) (b : Bundle) (old new : FilesState) (a : Answer) → IsCompile words path → IsThere old.contents path file → Reads file b
-    → (Rises old.read_faults new.read_faults → ⊥) → Asks words old new a → (text : List ℕ) × (a ≡ Text text)
-text_answer words path file b old new (Text text) is there reads calm asked = (text, refl)
-text_answer words path file b old new (WrongWord n) is there reads calm asked = absurd (asked.0.whole (path, is))
-text_answer words path file b old new (Refusal kind) is there reads calm asked =
-    let same = one_file old.contents path asked.0 file asked.2.file there (one_path words asked.0 path asked.1 is) asked.2.content in
-    absurd (not_both file kind b (subst (λ (f : List ℕ). FirstFault f kind) same asked.2.fault) asked.2.known reads)
-text_answer words path file b old new (Unread p) is there reads calm asked =
-    absurd (read_if_there old new path p file there calm (one_path words p path asked.0 is) asked.1)
+refusal_read : (r : Request) (old new : FilesState) (lines path : List ℕ) → IsKnown r old new → HasRefusal old.contents r lines → Wants r path → IsUnread old new path → ⊥
+refusal_read (compile p) old new lines path known has wants (inl fails) = known.1 fails.read_faults
+refusal_read (compile p) old new lines path known has wants (inr lacks) =
+    let content = refusal_content old.contents p lines has in
+    not_lacking old.contents p content.0 known.0 content.1 (subst (λ (q : List ℕ). Lacks old.contents q) wants lacks.1)
+refusal_read help old new lines path known has wants unread = wants
+refusal_read version old new lines path known has wants unread = wants
+
+absent_text : (r : Request) (contents : Option Contents) (text path : List ℕ) → Wants r path → IsAbsent contents path → HasText contents r text → ⊥
+absent_text (compile p) contents text path wants absent has =
+    absent_lacks contents p has.file (subst (λ (q : List ℕ). IsAbsent contents q) wants absent) has.content
+absent_text help contents text path wants absent has = wants
+absent_text version contents text path wants absent has = wants
+
+absent_refusal : (r : Request) (contents : Option Contents) (lines path : List ℕ) → Wants r path → IsAbsent contents path → HasRefusal contents r lines → ⊥
+absent_refusal (compile p) contents lines path wants absent has =
+    let content = refusal_content contents p lines has in
+    absent_lacks contents p content.0 (subst (λ (q : List ℕ). IsAbsent contents q) wants absent) content.1
+absent_refusal help contents lines path wants absent has = wants
+absent_refusal version contents lines path wants absent has = wants
+
+-- what was asked for is of the kind that is due
+pub one_status : (words : List (List ℕ)) (old new : FilesState) (due a : Answer) → IsDue words old new due → Asks words old new a → status_of a ≡ status_of due
+one_status words old new (Text t) (Text text) due asked = refl
+one_status words old new (Text t) (WrongWord k) due asked = absurd (asked.0.whole (due.0, due.1))
+one_status words old new (Text t) (Refusal lines) due asked =
+    let same = one_request words asked.0 due.0 asked.1 due.1 in
+    absurd (text_only due.0 old new t lines due.2 due.3 (subst (λ (r : Request). HasRefusal old.contents r lines) same asked.2))
+one_status words old new (Text t) (Unread path) due asked =
+    let same = one_request words asked.0 due.0 asked.1 due.1 in
+    absurd (text_read due.0 old new t path due.2 due.3 (subst (λ (r : Request). Wants r path) same asked.2) asked.3)
+one_status words old new (WrongWord n) (Text text) due asked = absurd (due.whole (asked.0, asked.1))
+one_status words old new (WrongWord n) (WrongWord k) due asked = refl
+one_status words old new (WrongWord n) (Refusal lines) due asked = absurd (due.whole (asked.0, asked.1))
+one_status words old new (WrongWord n) (Unread path) due asked = absurd (due.whole (asked.0, asked.1))
+one_status words old new (Refusal l) (Text text) due asked =
+    let same = one_request words asked.0 due.0 asked.1 due.1 in
+    absurd (text_only due.0 old new text l due.2 (subst (λ (r : Request). HasText old.contents r text) same asked.2) due.3)
+one_status words old new (Refusal l) (WrongWord k) due asked = absurd (asked.0.whole (due.0, due.1))
+one_status words old new (Refusal l) (Refusal lines) due asked = refl
+one_status words old new (Refusal l) (Unread path) due asked =
+    let same = one_request words asked.0 due.0 asked.1 due.1 in
+    absurd (refusal_read due.0 old new l path due.2 due.3 (subst (λ (r : Request). Wants r path) same asked.2) asked.3)
+one_status words old new (Unread p) (Text text) due asked =
+    let same = one_request words asked.0 due.0 asked.1 due.1 in
+    absurd (absent_text due.0 old.contents text p due.2 due.3 (subst (λ (r : Request). HasText old.contents r text) same asked.2))
+one_status words old new (Unread p) (WrongWord k) due asked = absurd (asked.0.whole (due.0, due.1))
+one_status words old new (Unread p) (Refusal lines) due asked =
+    let same = one_request words asked.0 due.0 asked.1 due.1 in
+    absurd (absent_refusal due.0 old.contents lines p due.2 due.3 (subst (λ (r : Request). HasRefusal old.contents r lines) same asked.2))
+one_status words old new (Unread p) (Unread path) due asked = refl
 
 -- ---- so a command ends
 
-ends : (words : List (List ℕ)) (before after : Outside) (due status : Status) → ((a : Answer) → Asks words before.files after.files a → status_of a ≡ due) → RunsCommand words before after status → EndsWith due status
-ends words before after due status only (inl answered) = inl (answered.ends ∙ only answered.answer answered.asked)
-ends words before after due status only (inr (inl unwritten)) = inr (inl unwritten.ends)
-ends words before after due status only (inr (inr none)) = inr (inr none.ends)
+pub ends : (words : List (List ℕ)) (before after : Outside) (status : Status) → HasDone words before after status
+    → (a : Answer) → IsDue words before.files after.files a → EndsWith (status_of a) status
+ends words before after status (inl answered) a due = inl (answered.ends ∙ one_status words before.files after.files a answered.answer due answered.asked)
+ends words before after status (inr (inl unwritten)) a due = inr (inl unwritten.ends)
+ends words before after status (inr (inr none)) a due = inr (inr none.ends)
 
-pub ends_usage : (words : List (List ℕ)) (before after : Outside) (status : Status) → RunsCommand words before after status → (k : ℕ) → IsFirstWrong words k → EndsWith statuses.Usage status
-ends_usage words before after status runs k wrong = ends words before after statuses.Usage status (λ a asked. usage_answer words k before.files after.files a wrong asked) runs
+-- a write that failed raised a count
+fails_later : (old mid new : SinkState) (line : List ℕ) → FailsToWrite old mid line → (mid.faults ≡ new.faults) ⊎ Rises mid.faults new.faults → Rises old.faults new.faults
+fails_later old mid new line fails (inl same) = record { later = omega (arith, fails.faults.later, same); next = omega (arith, fails.faults.next, same) }
+fails_later old mid new line fails (inr rise) =
+    record { later = omega (arith, fails.faults.later, rise.later); next = omega (arith, fails.faults.next, rise.later) }
 
-pub ends_unread : (words : List (List ℕ)) (before after : Outside) (status : Status) → RunsCommand words before after status
-    → (path : List ℕ) → IsCompile words path → IsAbsent before.files.contents path → EndsWith statuses.ReadFault status
-ends_unread words before after status runs path is absent =
-    ends words before after statuses.ReadFault status (λ a asked. unread_answer words path before.files after.files a is absent asked) runs
+said_part : (before after : Outside) (line : List ℕ) → SaysPart before after line → Rises before.err.faults after.err.faults
+said_part before after line (same, says) = fails_later before.err says.between after.err line says.part (tried says.rest)
+  where
+    tried : {bytes : List ℕ} → Tries says.between after.err bytes → (says.between.faults ≡ after.err.faults) ⊎ Rises says.between.faults after.err.faults
+    tried (inl writes) = inl (sym writes.faults)
+    tried (inr fails) = inr fails.faults
 
-pub ends_refused : (words : List (List ℕ)) (before after : Outside) (status : Status) → RunsCommand words before after status
-    → (path file : List ℕ) (kind : DocKind) → IsCompile words path → IsThere before.files.contents path file → FirstFault file kind → kind ≢ kinds.NoMemory
-    → (Rises before.files.read_faults after.files.read_faults → ⊥) → EndsWith statuses.Refused status
-ends_refused words before after status runs path file kind is there fault known calm =
-    ends words before after statuses.Refused status (λ a asked. refused_answer words path file kind before.files after.files a is there fault known calm asked) runs
+not_written : (before after : Outside) (a : Answer) → FailsToPrint before after a → WritesAll before.out after.out → WritesAll before.err after.err → ⊥
+not_written before after (Text text) fails out err = out fails.0.faults
+not_written before after (WrongWord k) fails out err = err (said_part before after _ fails)
+not_written before after (Refusal lines) fails out err = err (said_part before after _ fails)
+not_written before after (Unread path) fails out err = err (said_part before after _ fails)
 
-fails_text : (before after : Outside) (a : Answer) (text : List ℕ) → a ≡ Text text → FailsToPrint before after a → FailsToWrite before.out after.out text
-fails_text before after a text is fails = let part = rw is at fails in part.0
+pub completes : (words : List (List ℕ)) (before after : Outside) (status : Status) → HasDone words before after status
+    → (a : Answer) → IsDue words before.files after.files a → WritesAll before.out after.out → WritesAll before.err after.err → (status ≡ status_of a) ⊎ (status ≡ statuses.NoMemory)
+completes words before after status (inl answered) a due out err = inl (answered.ends ∙ one_status words before.files after.files a answered.answer due answered.asked)
+completes words before after status (inr (inl unwritten)) a due out err = absurd (not_written before after unwritten.answer unwritten.printed out err)
+completes words before after status (inr (inr none)) a due out err = inr none.ends
 
-pub ends_done : (words : List (List ℕ)) (before after : Outside) (status : Status) → RunsCommand words before after status
-    → (path file : List ℕ) (b : Bundle) → IsCompile words path → IsThere before.files.contents path file → Reads file b
-    → (Rises before.files.read_faults after.files.read_faults → ⊥) → (Rises before.out.faults after.out.faults → ⊥) → (status ≡ statuses.Done) ⊎ (status ≡ statuses.NoMemory)
-ends_done words before after status (inl answered) path file b is there reads calm quiet =
-    let text = text_answer words path file b before.files after.files answered.answer is there reads calm answered.asked in
-    inl (answered.ends ∙ ap status_of text.1)
-ends_done words before after status (inr (inl unwritten)) path file b is there reads calm quiet =
-    let text = text_answer words path file b before.files after.files unwritten.answer is there reads calm unwritten.asked in
-    absurd (quiet ((fails_text before after unwritten.answer text.0 text.1 unwritten.printed).faults))
-ends_done words before after status (inr (inr none)) path file b is there reads calm quiet = inr none.ends
+pub runs : (words : List (List ℕ)) (before after : Outside) (status : Status) → HasDone words before after status → RunsCommand words before after status
+runs words before after status done = record {
+  done = done;
+  due = ends words before after status done;
+  complete = completes words before after status done;
+}

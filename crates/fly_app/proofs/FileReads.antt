@@ -1,15 +1,17 @@
 -- What is known of a file from its first bytes.
-use Rattle.std.proofs.Common.{◌≡◌, ◌≢◌, ℕ, ◌+◌, ◌<◌, ◌≤◌, List, length, take, Option, None, Some, option_map, IfSome, Result, Ok, Err, Vec, Global, ap, refl, sym, ◌∙◌, arith}
+use Rattle.std.proofs.Common.{◌≡◌, ◌≢◌, ℕ, ◌+◌, ◌<◌, ◌≤◌, List, length, take, Option, None, Some, option_map, IfSome, Result, Ok, Err, Vec, Global, String, string_bytes, codes, ap, refl, sym, ◌∙◌, arith}
 use Rattle.std.proofs.lemmas.List.{length-take, take_all}
 use Rattle.fly_ports.specs.Files.{Contents, FilesState}
-use Rattle.fly_app.specs.Reading.{document_limit, FirstFault}
+use Rattle.fly_app.specs.Reading.{document_limit, FirstFault, place_of}
 use Rattle.fly_app.specs.declared.faults.DocKind.{DocKind}
 use Rattle.fly_app.specs.declared.faults.DocKind.TheVariants as kinds
-use Rattle.fly_app.specs.Commands.{IsContent, HasClosure, HasFault}
-use Rattle.fly_app.specs.declared.closure_of_file.ClosureFault.{ClosureFault}
-use Rattle.fly_app.specs.declared.closure_of_file.ClosureFault.TheVariants as faults
+use Rattle.fly_app.specs.Outside.{IsContent}
+use Rattle.fly_app.specs.Printing.{document_line}
+use Rattle.fly_app.specs.Answers.{HasClosure, HasDocumentFault}
+use Rattle.fly_app.specs.declared.compiling.Unanswered.{Unanswered}
+use Rattle.fly_app.specs.declared.compiling.Unanswered.TheVariants as unanswered
 use Rattle.fly_app.proofs.SingleTaskTyped.{typed-single_task, acyclic-single_task}
-use Rattle.fly_app.specs.ClosureOfFile.{HasText, CompilesBytes, CompilesFile}
+use Rattle.fly_app.specs.Compiling.{HasTextOf, RefusesBytes, CompilesBytes, CompilesFile}
 
 -- the first bytes of a file, where there is one
 abbrev first_bytes : ℕ → Option (List ℕ) → Option (List ℕ)
@@ -46,7 +48,7 @@ longer n None path bytes is many = (bytes, tt, many)
 longer n (Some held) path bytes is many = longer_file n (held path) bytes is many
 
 -- the closure's text of the bytes that were read is the file's
-pub text_of_file : (contents : Option Contents) (path bytes text : List ℕ) → IsReadUpTo contents path document_limit bytes → HasText bytes text → HasClosure contents path text
+pub text_of_file : (contents : Option Contents) (path bytes text : List ℕ) → IsReadUpTo contents path document_limit bytes → HasTextOf bytes text → HasClosure contents path text
 text_of_file contents path bytes text is has = record {
   file = bytes;
   content = whole document_limit contents path bytes is has.reads.within;
@@ -60,28 +62,42 @@ text_of_file contents path bytes text is has = record {
 }
 
 -- the first fault of the bytes that were read is the file's
-pub fault_of_file : (contents : Option Contents) (path bytes : List ℕ) (kind : DocKind) → IsReadUpTo contents path document_limit bytes → FirstFault bytes kind → kind ≢ kinds.NoMemory → HasFault contents path kind
-fault_of_file contents path bytes kinds.TooLarge is fault known =
+fault_of_file : (contents : Option Contents) (path bytes line : List ℕ) (kind : DocKind) → IsReadUpTo contents path document_limit bytes → FirstFault bytes kind
+    → kind ≢ kinds.NoMemory → line ≡ document_line kind (place_of kind) → HasDocumentFault contents path line
+fault_of_file contents path bytes line kinds.TooLarge is fault known says =
     let found = longer document_limit contents path bytes is fault in
-    record { file = found.0; content = found.1; fault = found.2; known = known }
-fault_of_file contents path bytes kinds.NotJson is fault known = record {
+    record { file = found.0; content = found.1; kind = kinds.TooLarge; fault = found.2; known = known; printed = says }
+fault_of_file contents path bytes line kinds.NotJson is fault known says = record {
   file = bytes;
   content = whole document_limit contents path bytes is fault.0;
+  kind = kinds.NotJson;
   fault = fault;
   known = known;
+  printed = says;
 }
-fault_of_file contents path bytes kinds.NotBuilt is fault known = record {
+fault_of_file contents path bytes line kinds.NotBuilt is fault known says = record {
   file = bytes;
   content = whole document_limit contents path bytes is fault.0;
+  kind = kinds.NotBuilt;
   fault = fault;
   known = known;
+  printed = says;
 }
-fault_of_file contents path bytes kinds.NoMemory is fault known = absurd (known refl)
+fault_of_file contents path bytes line kinds.NoMemory is fault known says = absurd (known refl)
 
 -- what compiling the first bytes of a file answers, compiling the file does
-pub compiles_file : (old new : FilesState) (path bytes : List ℕ) (r : Result (Vec ℕ Global) ClosureFault) → new ≡ old → IsReadUpTo old.contents path document_limit bytes
+pub compiles_file : (old new : FilesState) (path bytes : List ℕ) (r : Result (Vec ℕ Global) Unanswered) → new ≡ old → IsReadUpTo old.contents path document_limit bytes
     → CompilesBytes bytes r → CompilesFile old new path r
 compiles_file old new path bytes (Ok text) same is has = (text_of_file old.contents path bytes text.items is has, same)
-compiles_file old new path bytes (Err (faults.Refused kind)) same is why = (fault_of_file old.contents path bytes kind is why.0 why.1, same)
-compiles_file old new path bytes (Err faults.Unread) same is why = absurd why
-compiles_file old new path bytes (Err faults.NoMemory) same is why = same
+compiles_file old new path bytes (Err (unanswered.Refused lines)) same is (kind, fault, known, says) =
+    (fault_of_file old.contents path bytes (string_bytes lines) kind is fault known says, same)
+compiles_file old new path bytes (Err unanswered.Unread) same is why = absurd why
+compiles_file old new path bytes (Err unanswered.NoMemory) same is why = same
+
+-- a refusal by its kind
+pub refuses : (bytes : List ℕ) (kind : DocKind) (lines : String Global) → FirstFault bytes kind → kind ≢ kinds.NoMemory → string_bytes lines ≡ document_line kind (codes "/")
+    → RefusesBytes bytes (unanswered.Refused lines)
+refuses bytes kinds.NotJson lines fault known says = (kinds.NotJson, fault, known, says)
+refuses bytes kinds.TooLarge lines fault known says = (kinds.TooLarge, fault, known, says)
+refuses bytes kinds.NotBuilt lines fault known says = (kinds.NotBuilt, fault, known, says)
+refuses bytes kinds.NoMemory lines fault known says = absurd (known refl)

@@ -1,94 +1,186 @@
 -- The first wrong word, by what the words begin with.
-use Rattle.std.proofs.Common.{◌≡◌, ◌≢◌, ℕ, List, [], ◌∷◌, length, suc, ◌==◌, Bool, true, false, not, true≢false, codes, refl, sym, ap, ◌∙◌, arith}
+use Rattle.std.proofs.Common.{◌≡◌, ◌≢◌, ℕ, List, [], ◌∷◌, length, suc, ◌==◌, Bool, true, false, true≢false, ◌⊎◌, inl, inr, codes, refl, sym, ap, ◌∙◌, arith}
 use Rattle.std.specs.Str.{bytes_eq}
 use Rattle.std.proofs.lemmas.Bool.Decides.{nat_tests}
 use Rattle.std.proofs.lemmas.Slice.Eq.{bytes_eq-Decides}
-use Rattle.fly_app.specs.Words.{is_option, IsCompile, IsCommand, IsFirstWrong}
+use Rattle.fly_app.specs.Words.{is_option, Request, compile, help, version, IsCompile, IsRequest, IsCommand, IsFirstWrong}
 
 -- any file will do, as the one without a name
 command_at : (path : List ℕ) → is_option path ≡ false → IsCommand (codes "compile" ∷ path ∷ [])
-command_at path h = (path, record { spelled = refl; file = h })
+command_at path h = (compile path, record { spelled = refl; file = h })
+
+no_words : (r : Request) → IsRequest [] r → ⊥
+no_words (compile path) is = absurd (cc is.spelled)
+no_words help is = absurd (cc is)
+no_words version is = absurd (cc is)
 
 pub wrong_empty : IsFirstWrong [] 0
 wrong_empty = record {
   right = (codes "compile" ∷ [] ∷ [], command_at [] refl);
   within = omega arith;
   next = λ h. absurd (omega arith);
-  whole = λ w. absurd (cc w.1.spelled);
+  whole = λ w. no_words w.0 w.1;
 }
 
-pub wrong_command : (command : List ℕ) (rest : List (List ℕ)) → command ≢ codes "compile" → IsFirstWrong (command ∷ rest) 0
-wrong_command command rest other = record {
+-- a word that begins no command
+not_first : (command : List ℕ) (rest : List (List ℕ)) → command ≢ codes "compile" → command ≢ codes "--help" → command ≢ codes "--version" → (r : Request)
+    → IsRequest (command ∷ rest) r → ⊥
+not_first command rest a b c (compile path) is = a (cc is.spelled)
+not_first command rest a b c help is = b (cc is)
+not_first command rest a b c version is = c (cc is)
+
+pub wrong_command : (command : List ℕ) (rest : List (List ℕ)) → command ≢ codes "compile" → command ≢ codes "--help" → command ≢ codes "--version"
+    → IsFirstWrong (command ∷ rest) 0
+wrong_command command rest a b c = record {
   right = (codes "compile" ∷ [] ∷ [], command_at [] refl);
   within = omega arith;
-  next = λ h b. other (cc b.1.1.spelled);
-  whole = λ w. other (cc w.1.spelled);
+  next = λ h begun. not_first command begun.0 a b c begun.1.0 begun.1.1;
+  whole = λ w. not_first command rest a b c w.0 w.1;
 }
 
-pub wrong_missing : (command : List ℕ) → command ≡ codes "compile" → IsFirstWrong (command ∷ []) 1
-wrong_missing command is = rw is (record {
+-- ---- behind `compile`
+
+no_file : (r : Request) → IsRequest (codes "compile" ∷ []) r → ⊥
+no_file (compile path) is = absurd (cc is.spelled)
+no_file help is = absurd (cc is)
+no_file version is = absurd (cc is)
+
+pub wrong_missing : IsFirstWrong (codes "compile" ∷ []) 1
+wrong_missing = record {
   right = ([] ∷ [], command_at [] refl);
   within = omega arith;
   next = λ h. absurd (omega arith);
-  whole = λ w. absurd (cc w.1.spelled);
-})
+  whole = λ w. no_file w.0 w.1;
+}
 
-pub wrong_option : (command path : List ℕ) (rest : List (List ℕ)) → command ≡ codes "compile" → is_option path ≡ true → IsFirstWrong (command ∷ path ∷ rest) 1
-wrong_option command path rest is option = rw is (record {
+not_option : (path : List ℕ) (rest : List (List ℕ)) → is_option path ≡ true → (r : Request) → IsRequest (codes "compile" ∷ path ∷ rest) r → ⊥
+not_option path rest option (compile p) is = let same : path ≡ p = cc is.spelled in true≢false (sym option ∙ ap is_option same ∙ is.file)
+not_option path rest option help is = absurd (cc is)
+not_option path rest option version is = absurd (cc is)
+
+pub wrong_option : (path : List ℕ) (rest : List (List ℕ)) → is_option path ≡ true → IsFirstWrong (codes "compile" ∷ path ∷ rest) 1
+wrong_option path rest option = record {
   right = ([] ∷ [], command_at [] refl);
   within = omega arith;
-  next = λ h b. let same : path ≡ b.1.0 = cc b.1.1.spelled in true≢false (sym option ∙ ap is_option same ∙ b.1.1.file);
-  whole = λ w. let same : path ≡ w.0 = cc w.1.spelled in true≢false (sym option ∙ ap is_option same ∙ w.1.file);
-})
+  next = λ h begun. not_option path begun.0 option begun.1.0 begun.1.1;
+  whole = λ w. not_option path rest option w.0 w.1;
+}
 
-pub wrong_third : (command path word : List ℕ) (rest : List (List ℕ)) → command ≡ codes "compile" → is_option path ≡ false → IsFirstWrong (command ∷ path ∷ word ∷ rest) 2
-wrong_third command path word rest is file = rw is (record {
+not_third : (path word : List ℕ) (rest : List (List ℕ)) → (r : Request) → IsRequest (codes "compile" ∷ path ∷ word ∷ rest) r → ⊥
+not_third path word rest (compile p) is = absurd (cc is.spelled)
+not_third path word rest help is = absurd (cc is)
+not_third path word rest version is = absurd (cc is)
+
+pub wrong_third : (path word : List ℕ) (rest : List (List ℕ)) → is_option path ≡ false → IsFirstWrong (codes "compile" ∷ path ∷ word ∷ rest) 2
+wrong_third path word rest file = record {
   right = ([], command_at path file);
   within = omega arith;
-  next = λ h b. absurd (cc b.1.1.spelled);
-  whole = λ w. absurd (cc w.1.spelled);
-})
+  next = λ h begun. not_third path word begun.0 begun.1.0 begun.1.1;
+  whole = λ w. not_third path word rest w.0 w.1;
+}
+
+-- ---- behind `--help` and `--version`
+
+not_behind_help : (word : List ℕ) (rest : List (List ℕ)) → (r : Request) → IsRequest (codes "--help" ∷ word ∷ rest) r → ⊥
+not_behind_help word rest (compile p) is = absurd (cc is.spelled)
+not_behind_help word rest help is = absurd (cc is)
+not_behind_help word rest version is = absurd (cc is)
+
+wrong_behind_help : (word : List ℕ) (rest : List (List ℕ)) → IsFirstWrong (codes "--help" ∷ word ∷ rest) 1
+wrong_behind_help word rest = record {
+  right = ([], (help, refl));
+  within = omega arith;
+  next = λ h begun. not_behind_help word begun.0 begun.1.0 begun.1.1;
+  whole = λ w. not_behind_help word rest w.0 w.1;
+}
+
+not_behind_version : (word : List ℕ) (rest : List (List ℕ)) → (r : Request) → IsRequest (codes "--version" ∷ word ∷ rest) r → ⊥
+not_behind_version word rest (compile p) is = absurd (cc is.spelled)
+not_behind_version word rest help is = absurd (cc is)
+not_behind_version word rest version is = absurd (cc is)
+
+wrong_behind_version : (word : List ℕ) (rest : List (List ℕ)) → IsFirstWrong (codes "--version" ∷ word ∷ rest) 1
+wrong_behind_version word rest = record {
+  right = ([], (version, refl));
+  within = omega arith;
+  next = λ h begun. not_behind_version word begun.0 begun.1.0 begun.1.1;
+  whole = λ w. not_behind_version word rest w.0 w.1;
+}
 
 -- ---- the same, from what the tests of the words told
 
-differs : (a b : List ℕ) → true ≡ not (bytes_eq a b) → a ≢ b
-differs a b h e = true≢false (h ∙ ap not ((bytes_eq-Decides a b).1 e))
+not_none : (ws : List (List ℕ)) → (suc (length ws) == 0) ≡ false
+not_none ws = grind (arith, nat_tests)
 
-agrees : (a b : List ℕ) (t : Bool) → bytes_eq a b ≡ t → false ≡ not t → a ≡ b
-agrees a b true e h = (bytes_eq-Decides a b).0 e
-agrees a b false e h = absurd (true≢false (sym h))
+-- `compile` and one file
+pub one_file : (path : List ℕ) (more : List (List ℕ)) → is_option path ≡ false → true ≡ (length more == 0) → IsCompile (codes "compile" ∷ path ∷ more) path
+one_file path [] file none = record { spelled = refl; file = file }
+one_file path (w ∷ ws) file none = absurd (true≢false (none ∙ not_none ws))
+
+-- and more words
+pub more_words : (path : List ℕ) (more : List (List ℕ)) → is_option path ≡ false → false ≡ (length more == 0) → IsFirstWrong (codes "compile" ∷ path ∷ more) 2
+more_words path [] file some = absurd (true≢false (sym some))
+more_words path (w ∷ ws) file some = wrong_third path w ws file
+
+-- an option that is a command by itself
+pub alone : (word : List ℕ) (rest : List (List ℕ)) (r : Request) → ((r ≡ help) × (word ≡ codes "--help")) ⊎ ((r ≡ version) × (word ≡ codes "--version"))
+    → true ≡ (length rest == 0) → IsRequest (word ∷ rest) r
+alone word [] r (inl is) none = rw (is.0, is.1) refl
+alone word [] r (inr is) none = rw (is.0, is.1) refl
+alone word (w ∷ ws) r is none = absurd (true≢false (none ∙ not_none ws))
+
+pub not_alone : (word : List ℕ) (rest : List (List ℕ)) (r : Request) → ((r ≡ help) × (word ≡ codes "--help")) ⊎ ((r ≡ version) × (word ≡ codes "--version"))
+    → false ≡ (length rest == 0) → IsFirstWrong (word ∷ rest) 1
+not_alone word [] r is some = absurd (true≢false (sym some))
+not_alone word (w ∷ ws) r (inl is) some = rw is.1 (wrong_behind_help w ws)
+not_alone word (w ∷ ws) r (inr is) some = rw is.1 (wrong_behind_version w ws)
+
+-- ---- behind `compile`, as the code splits the words
+
+pub missing_file : (rest : List (List ℕ)) → length rest ≡ 0 → IsFirstWrong (codes "compile" ∷ rest) 1
+missing_file [] none = wrong_missing
+missing_file (w ∷ ws) none = absurd (omega arith)
+
+pub option_for_file : (rest more : List (List ℕ)) (path : List ℕ) → rest ≡ path ∷ more → is_option path ≡ true → IsFirstWrong (codes "compile" ∷ rest) 1
+option_for_file rest more path then option = rw then (wrong_option path more option)
+
+pub file_alone : (rest more : List (List ℕ)) (path : List ℕ) → rest ≡ path ∷ more → is_option path ≡ false → true ≡ (length more == 0) → IsCompile (codes "compile" ∷ rest) path
+file_alone rest more path then file none = rw then (one_file path more file none)
+
+pub file_and_more : (rest more : List (List ℕ)) (path : List ℕ) → rest ≡ path ∷ more → is_option path ≡ false → false ≡ (length more == 0)
+    → IsFirstWrong (codes "compile" ∷ rest) 2
+file_and_more rest more path then file some = rw then (more_words path more file some)
+
+-- ---- the first word
 
 pub empty_words : (words : List (List ℕ)) → length words ≡ 0 → IsFirstWrong words 0
 empty_words [] h = wrong_empty
 empty_words (w ∷ ws) h = absurd (omega arith)
 
-pub other_command : (words rest : List (List ℕ)) (command spelled : List ℕ) → words ≡ command ∷ rest → spelled ≡ command → true ≡ not (bytes_eq spelled (codes "compile")) → IsFirstWrong words 0
-other_command words rest command spelled is same test = rw is (wrong_command command rest (λ e. differs spelled (codes "compile") test (same ∙ e)))
+agrees : (a b : List ℕ) (t : Bool) → bytes_eq a b ≡ t → true ≡ t → a ≡ b
+agrees a b true e h = (bytes_eq-Decides a b).0 e
+agrees a b false e h = absurd (true≢false h)
 
-named : (command spelled : List ℕ) → spelled ≡ command → false ≡ not (bytes_eq spelled (codes "compile")) → command ≡ codes "compile"
-named command spelled same test = sym same ∙ agrees spelled (codes "compile") (bytes_eq spelled (codes "compile")) refl test
+differs : (a b : List ℕ) → false ≡ bytes_eq a b → a ≢ b
+differs a b h e = true≢false (sym ((bytes_eq-Decides a b).1 e) ∙ sym h)
 
-pub missing_file : (words rest : List (List ℕ)) (command spelled : List ℕ) → words ≡ command ∷ rest → spelled ≡ command → false ≡ not (bytes_eq spelled (codes "compile")) → length rest ≡ 0 → IsFirstWrong words 1
-missing_file words [] command spelled is same test none = rw is (wrong_missing command (named command spelled same test))
-missing_file words (w ∷ ws) command spelled is same test none = absurd (omega arith)
+-- the first word is this one, by a test of its text
+pub named : (command spelled name : List ℕ) → spelled ≡ command → true ≡ bytes_eq spelled name → command ≡ name
+named command spelled name same test = sym same ∙ agrees spelled name (bytes_eq spelled name) refl test
 
-pub option_for_file : (words rest more : List (List ℕ)) (command spelled path : List ℕ) → words ≡ command ∷ rest → spelled ≡ command → false ≡ not (bytes_eq spelled (codes "compile"))
-    → rest ≡ path ∷ more → is_option path ≡ true → IsFirstWrong words 1
-option_for_file words rest more command spelled path is same test then option =
-    rw (is, then) (wrong_option command path more (named command spelled same test) option)
+other : (command spelled name : List ℕ) → spelled ≡ command → false ≡ bytes_eq spelled name → command ≢ name
+other command spelled name same test is = differs spelled name test (same ∙ is)
 
-not_none : (ws : List (List ℕ)) → (suc (length ws) == 0) ≡ false
-not_none ws = grind (arith, nat_tests)
+pub other_command : (words rest : List (List ℕ)) (command first second third : List ℕ) → words ≡ command ∷ rest
+    → first ≡ command → false ≡ bytes_eq first (codes "compile") → second ≡ command → false ≡ bytes_eq second (codes "--help")
+    → third ≡ command → false ≡ bytes_eq third (codes "--version") → IsFirstWrong words 0
+other_command words rest command first second third is same a then b last c =
+    rw is (wrong_command command rest (other command first (codes "compile") same a) (other command second (codes "--help") then b) (other command third (codes "--version") last c))
 
-pub file_command : (words rest more : List (List ℕ)) (command spelled path : List ℕ) → words ≡ command ∷ rest → spelled ≡ command → false ≡ not (bytes_eq spelled (codes "compile"))
-    → rest ≡ path ∷ more → is_option path ≡ false → true ≡ (length more == 0) → IsCompile words path
-file_command words rest [] command spelled path is same test then file none = record {
-  spelled = rw (is, then, named command spelled same test);
-  file = file;
-}
-file_command words rest (w ∷ ws) command spelled path is same test then file none = absurd (true≢false (none ∙ not_none ws))
+pub request_alone : (words rest : List (List ℕ)) (command : List ℕ) (r : Request) → words ≡ command ∷ rest
+    → ((r ≡ help) × (command ≡ codes "--help")) ⊎ ((r ≡ version) × (command ≡ codes "--version")) → true ≡ (length rest == 0) → IsRequest words r
+request_alone words rest command r is asked none = rw is (alone command rest r asked none)
 
-pub third_word : (words rest more : List (List ℕ)) (command spelled path : List ℕ) → words ≡ command ∷ rest → spelled ≡ command → false ≡ not (bytes_eq spelled (codes "compile"))
-    → rest ≡ path ∷ more → is_option path ≡ false → false ≡ (length more == 0) → IsFirstWrong words 2
-third_word words rest [] command spelled path is same test then file some = absurd (true≢false (sym some))
-third_word words rest (w ∷ ws) command spelled path is same test then file some = rw (is, then) (wrong_third command path w ws (named command spelled same test) file)
+pub request_and_more : (words rest : List (List ℕ)) (command : List ℕ) (r : Request) → words ≡ command ∷ rest
+    → ((r ≡ help) × (command ≡ codes "--help")) ⊎ ((r ≡ version) × (command ≡ codes "--version")) → false ≡ (length rest == 0) → IsFirstWrong words 1
+request_and_more words rest command r is asked some = rw is (not_alone command rest r asked some)

@@ -4,7 +4,10 @@ pub mod SingleTask
 pub mod SingleTaskClosure
 pub mod Reading
 pub mod Words
+pub mod Command
+pub mod Outside
 pub mod Printing
-pub mod Commands
-pub mod ClosureOfFile
+pub mod Help
+pub mod Answers
+pub mod Compiling
 pub mod Candidate

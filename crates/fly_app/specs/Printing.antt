@@ -1,30 +1,31 @@
--- The texts that are printed beside answers, and how they are printed.
+-- The texts that are printed, and how they are.
 use Rattle.std.specs.Prelude.{◌≡◌, ◌⊎◌, ℕ, List, [], ◌∷◌, ◌++◌, codes, decimal}
 use Rattle.fly_ports.specs.Sink.{SinkState, Writes, FailsToWrite, Tries}
 use Rattle.fly_app.specs.declared.faults.DocKind.{DocKind}
-use Rattle.fly_app.specs.declared.faults.DocKind.TheVariants.{NotJson, TooLarge, NotBuilt, NoMemory}
+use Rattle.fly_app.specs.declared.faults.DocKind.TheVariants as kinds
 use Rattle.fly_app.specs.declared.status.Status.{Status}
 use Rattle.fly_app.specs.declared.status.Status.TheVariants as statuses
-use Rattle.fly_app.specs.Reading.{place_of}
 
 -- the end of each line
 abbrev pub newline : List ℕ
 newline = 10 ∷ []
 
+-- ---- lines
+
 -- the line for words that are no command, with the number of the first wrong one
 abbrev pub usage_text : ℕ → List ℕ
 usage_text k = codes "usage: word " ++ decimal k ++ newline
 
--- what a fault is called
+-- what a document's fault is called
 abbrev pub kind_name : DocKind → List ℕ
-kind_name NotJson = codes "NotJson"
-kind_name TooLarge = codes "TooLarge"
-kind_name NotBuilt = codes "NotBuilt"
-kind_name NoMemory = []
+kind_name kinds.NotJson = codes "NotJson"
+kind_name kinds.TooLarge = codes "TooLarge"
+kind_name kinds.NotBuilt = codes "NotBuilt"
+kind_name kinds.NoMemory = []
 
--- the line for a document with this fault
-abbrev pub refusal_text : DocKind → List ℕ
-refusal_text kind = codes "bundle: " ++ kind_name kind ++ codes " " ++ place_of kind ++ newline
+-- the line for a document with this fault at this place
+abbrev pub document_line : DocKind → List ℕ → List ℕ
+document_line kind place = codes "bundle: " ++ kind_name kind ++ codes " " ++ place ++ newline
 
 -- the line for a file that was not read
 abbrev pub unread_text : List ℕ → List ℕ
@@ -37,6 +38,8 @@ unwritten_text = codes "cannot write" ++ newline
 -- what is tried where there is no memory for an answer
 abbrev pub no_memory_text : List ℕ
 no_memory_text = codes "out of memory" ++ newline
+
+-- ---- printing
 
 -- a write of the line failed, and behind the first part of it `cannot write` was tried
 pub record FailsToSay (old new : SinkState) (line : List ℕ) : Type 0 where

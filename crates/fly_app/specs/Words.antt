@@ -6,14 +6,26 @@ use Rattle.std.specs.List.{starts_with}
 abbrev pub is_option : List ℕ → Bool
 is_option word = starts_with nat_eq word (codes "--")
 
+-- what words ask for: the closure of the bundle in a file, what the program does, or its name and version
+pub data Request : Type 0 where
+  compile : List ℕ → Request
+  help : Request
+  version : Request
+
 -- `compile` and a file
 pub record IsCompile (words : List (List ℕ)) (path : List ℕ) : Type 0 where
   pub spelled : words ≡ codes "compile" ∷ path ∷ []
   pub file : is_option path ≡ false
 
+-- the words ask for this
+abbrev pub IsRequest : List (List ℕ) → Request → Type 0
+IsRequest words (compile path) = IsCompile words path
+IsRequest words help = words ≡ codes "--help" ∷ []
+IsRequest words version = words ≡ codes "--version" ∷ []
+
 -- the words are those of a command
 abbrev pub IsCommand : List (List ℕ) → Type 0
-IsCommand words = (path : List ℕ) × IsCompile words path
+IsCommand words = (request : Request) × IsRequest words request
 
 -- a command begins with these words
 abbrev pub Begins : List (List ℕ) → Type 0

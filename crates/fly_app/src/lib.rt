@@ -2,11 +2,12 @@
 #![tactic(auto)]
 
 mod candidate;
-mod closure_of_file;
 mod commands;
 mod compile;
+mod compiling;
 mod documents;
 mod faults;
+mod help;
 mod message;
 mod printing;
 mod read_bundle;

@@ -1,7 +1,6 @@
-ghost use Rattle.std.specs.Prelude.{◌≡◌, ◌≢◌, IfOk, MatchResult, string_bytes};
+ghost use Rattle.std.specs.Prelude.{◌≡◌, IfOk, MatchResult, string_bytes};
 ghost use Rattle.fly_ports.specs.Sink.{Tries};
-ghost use Rattle.fly_app.specs.declared.faults.DocKind.{DocKind};
-ghost use Rattle.fly_app.specs.Printing.{PrintsText, SaysLine, no_memory_text, kind_name as name_of_kind, usage_text, refusal_text, unread_text};
+ghost use Rattle.fly_app.specs.Printing.{PrintsText, SaysLine, no_memory_text, kind_name as name_of_kind, usage_text, document_line as line_of_document, unread_text};
 
 use crate::Status;
 use crate::faults::DocKind;
@@ -32,13 +31,12 @@ pub fn usage_line(alloc: Global, word: usize) -> Result<String, NoMemory>
     Ok(format!(in alloc; "usage: word {word}\n")?)
 }
 
-/// The fault of the document, at its place.
-pub fn refusal_line(alloc: Global, kind: DocKind) -> Result<String, NoMemory>
-    requires { kind ≢ DocKind.NoMemory }
-    ensures { IfOk result (λ line. string_bytes line ≡ refusal_text kind) }
+/// The fault of a document, with its place.
+pub fn document_line(alloc: Global, kind: DocKind, place: &str) -> Result<String, NoMemory>
+    ensures { IfOk result (λ line. string_bytes line ≡ line_of_document kind place.now) }
 {
     let name = kind_name(kind);
-    Ok(format!(in alloc; "bundle: {name} /\n")?)
+    Ok(format!(in alloc; "bundle: {name} {place}\n")?)
 }
 
 /// The file that could not be read.
@@ -68,7 +66,7 @@ pub fn print<O: Sink, E: Sink>(out: &mut O, err: &mut E, text: &[u8]) -> Status
     }
 }
 
-/// Puts the line that says why there is no text, and answers the status for that.
+/// Puts the lines that say why there is no text, and answers the status for that.
 fn put_line<E: Sink>(err: &mut E, line: &str, reason: Status) -> Status
     ensures { SaysLine (E.state err.old) (E.state err.new) line.now reason result }
 {

@@ -13,14 +13,6 @@ const CLOSURE: &str =
     r#"{"primary":{"connections":{"downstream":{"n0":{"ids":["end-node"]},"start-node":{"ids":["n0"]}},"upstream":{"end-node":{"ids":["n0"]},"n0":{"ids":["start-node"]}}},"template":{"id":{"domain":"d","name":"w","project":"p","resourceType":"WORKFLOW","version":"1"},"interface":{"inputs":{"variables":{"a":{"type":{"simple":"INTEGER"}}}},"outputs":{"variables":{"b":{"type":{"simple":"INTEGER"}}}}},"nodes":[{"id":"n0","inputs":[{"binding":{"promise":{"nodeId":"start-node","var":"a"}},"var":"x"}],"taskNode":{"referenceId":{"domain":"d","name":"inc","project":"p","resourceType":"TASK","version":"1"}}}],"outputs":[{"binding":{"promise":{"nodeId":"n0","var":"y"}},"var":"b"}]}},"tasks":[{"template":{"container":{"command":["inc"]},"id":{"domain":"d","name":"inc","project":"p","resourceType":"TASK","version":"1"},"interface":{"inputs":{"variables":{"x":{"type":{"simple":"INTEGER"}}}},"outputs":{"variables":{"y":{"type":{"simple":"INTEGER"}}}}}}}]}
 "#;
 
-/// The same with a second node.
-const TWO_NODES: &str =
-    r#"{"primary":{"domain":"d","name":"w","project":"p","resourceType":"WORKFLOW","version":"1"},"tasks":[{"container":{"command":["inc"]},"id":{"domain":"d","name":"inc","project":"p","resourceType":"TASK","version":"1"},"interface":{"inputs":{"variables":{"x":{"type":{"simple":"INTEGER"}}}},"outputs":{"variables":{"y":{"type":{"simple":"INTEGER"}}}}}}],"workflows":[{"id":{"domain":"d","name":"w","project":"p","resourceType":"WORKFLOW","version":"1"},"interface":{"inputs":{"variables":{"a":{"type":{"simple":"INTEGER"}}}},"outputs":{"variables":{"b":{"type":{"simple":"INTEGER"}}}}},"nodes":[{"id":"n0","inputs":[{"binding":{"promise":{"nodeId":"start-node","var":"a"}},"var":"x"}],"taskNode":{"referenceId":{"domain":"d","name":"inc","project":"p","resourceType":"TASK","version":"1"}}},{"id":"n1","inputs":[{"binding":{"promise":{"nodeId":"start-node","var":"a"}},"var":"x"}],"taskNode":{"referenceId":{"domain":"d","name":"inc","project":"p","resourceType":"TASK","version":"1"}}}],"outputs":[{"binding":{"promise":{"nodeId":"n0","var":"y"}},"var":"b"}]}]}"#;
-
-/// The same with an output of the type STRING.
-const STRING_OUTPUT: &str =
-    r#"{"primary":{"domain":"d","name":"w","project":"p","resourceType":"WORKFLOW","version":"1"},"tasks":[{"container":{"command":["inc"]},"id":{"domain":"d","name":"inc","project":"p","resourceType":"TASK","version":"1"},"interface":{"inputs":{"variables":{"x":{"type":{"simple":"INTEGER"}}}},"outputs":{"variables":{"y":{"type":{"simple":"INTEGER"}}}}}}],"workflows":[{"id":{"domain":"d","name":"w","project":"p","resourceType":"WORKFLOW","version":"1"},"interface":{"inputs":{"variables":{"a":{"type":{"simple":"INTEGER"}}}},"outputs":{"variables":{"b":{"type":{"simple":"STRING"}}}}},"nodes":[{"id":"n0","inputs":[{"binding":{"promise":{"nodeId":"start-node","var":"a"}},"var":"x"}],"taskNode":{"referenceId":{"domain":"d","name":"inc","project":"p","resourceType":"TASK","version":"1"}}}],"outputs":[{"binding":{"promise":{"nodeId":"n0","var":"y"}},"var":"b"}]}]}"#;
-
 const COMPILE: &[&str; 2] = &["compile", "b.json"];
 
 fn text(alloc: Global, text: &str) -> Result<Text, AllocError> {
@@ -119,47 +111,15 @@ fn a_bundle_compiles_by_the_top_call(rt: HostRuntime) -> Result<(), Fail> {
 }
 
 #[test]
-fn a_document_with_a_fault_is_refused(rt: HostRuntime) -> Result<(), Fail> {
-    let refusals = &[
-        ("", "bundle: NotJson /\n"),
-        (TWO_NODES, "bundle: NotBuilt /\n"),
-        (STRING_OUTPUT, "bundle: NotBuilt /\n"),
-    ];
-    for (document, line) in refusals {
-        let outcome = run(&rt, COMPILE, files(rt.alloc(), Some(document), &[])?, 4096)?;
-        assert!(rt; outcome.is(Status::Refused, "", line));
-    }
+fn what_is_no_document_is_refused(rt: HostRuntime) -> Result<(), Fail> {
+    let outcome = run(&rt, COMPILE, files(rt.alloc(), Some(""), &[])?, 4096)?;
+    assert!(rt; outcome.is(Status::Refused, "", "bundle: NotJson /\n"));
     Ok(())
 }
 
 #[test]
-fn a_file_that_is_absent_or_not_read_is_named(rt: HostRuntime) -> Result<(), Fail> {
-    let absent = run(&rt, COMPILE, files(rt.alloc(), None, &[])?, 4096)?;
-    assert!(rt; absent.is(Status::ReadFault, "", "cannot read b.json\n"));
-    let failed = run(&rt, COMPILE, files(rt.alloc(), Some(INC), &[1])?, 4096)?;
-    assert!(rt; failed.is(Status::ReadFault, "", "cannot read b.json\n"));
-    Ok(())
-}
-
-#[test]
-fn the_first_wrong_word_is_numbered(rt: HostRuntime) -> Result<(), Fail> {
-    let lines: &[(&[&str], &str)] = &[
-        (&[], "usage: word 0\n"),
-        (&["run"], "usage: word 0\n"),
-        (&["compile"], "usage: word 1\n"),
-        (&["compile", "--all"], "usage: word 1\n"),
-        (&["compile", "a", "b"], "usage: word 2\n"),
-    ];
-    for (spelled, line) in lines {
-        let outcome = run(&rt, spelled, files(rt.alloc(), None, &[])?, 4096)?;
-        assert!(rt; outcome.is(Status::Usage, "", line));
-    }
-    Ok(())
-}
-
-#[test]
-fn an_answer_ends_where_its_room_does(rt: HostRuntime) -> Result<(), Fail> {
-    let outcome = run(&rt, COMPILE, files(rt.alloc(), Some(INC), &[])?, 11)?;
-    assert!(rt; outcome.is(Status::WriteFault, "{\"primary\":", "cannot write\n"));
+fn the_program_tells_its_version(rt: HostRuntime) -> Result<(), Fail> {
+    let outcome = run(&rt, &["--version"], files(rt.alloc(), None, &[])?, 4096)?;
+    assert!(rt; outcome.is(Status::Done, "flyte 0.1.0\n", ""));
     Ok(())
 }

@@ -1,10 +1,6 @@
-ghost use Rattle.std.specs.Prelude.{◌≡◌, ◌≢◌, ◌⊎◌, ℕ, List};
-ghost use Rattle.fly_ports.specs.Faults.{Rises};
-ghost use Rattle.fly_docs.specs.declared.workflow.Bundle.{Bundle};
-ghost use Rattle.fly_app.specs.declared.faults.DocKind.{DocKind};
-ghost use Rattle.fly_app.specs.Words.{IsCompile, IsFirstWrong};
-ghost use Rattle.fly_app.specs.Reading.{Reads, FirstFault};
-ghost use Rattle.fly_app.specs.Commands.{outside, RunsCommand, EndsWith, IsThere, IsAbsent};
+ghost use Rattle.std.specs.Prelude.{◌≡◌};
+ghost use Rattle.fly_app.specs.Outside.{outside};
+ghost use Rattle.fly_app.specs.Answers.{RunsCommand};
 
 use crate::{Status, plain};
 use fly_ports::{Clock, Files, Gate, Hand, Sink, Spawner};
@@ -36,23 +32,6 @@ pub fn flyte<
     // What is printed, where, and what stands after it.
     ensures runs { RunsCommand words.now (outside (F.state files.old) (O.state out.old) (E.state err.old))
         (outside (F.state files.new) (O.state out.new) (E.state err.new)) result }
-
-    // Each answer is given wherever its cause is the first, unless memory is wanting, or it can't be printed.
-    ensures usage_where { (k : ℕ) → IsFirstWrong words.now k → EndsWith Status.Usage result }
-    ensures unread_where { (path : List ℕ) → IsCompile words.now path → IsAbsent (F.state files.old).contents path
-        → EndsWith Status.ReadFault result }
-    ensures refused_where { (path file : List ℕ) (kind : DocKind) → IsCompile words.now path
-        → IsThere (F.state files.old).contents path file → FirstFault file kind → kind ≢ DocKind.NoMemory
-        → (Rises (F.state files.old).read_faults (F.state files.new).read_faults → ⊥)
-        → EndsWith Status.Refused result }
-
-    // Where the words are a command, the file is there, is a document and can be read, and no write of an answer fails,
-    // the closure is printed.
-    ensures complete { (path file : List ℕ) (b : Bundle) → IsCompile words.now path
-        → IsThere (F.state files.old).contents path file → Reads file b
-        → (Rises (F.state files.old).read_faults (F.state files.new).read_faults → ⊥)
-        → (Rises (O.state out.old).faults (O.state out.new).faults → ⊥)
-        → (result ≡ Status.Done) ⊎ (result ≡ Status.NoMemory) }
 
     // No hand of the crew does anything.
     ensures crew { crew.new ≡ crew.old }

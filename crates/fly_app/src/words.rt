@@ -1,7 +1,19 @@
-ghost use Rattle.std.specs.Prelude.{◌≡◌, IfOk, IfErr};
-ghost use Rattle.fly_app.specs.Words.{IsCompile, IsFirstWrong, is_option as begins_as_option};
+ghost use Rattle.std.specs.Prelude.{◌≡◌, ◌∷◌, codes, IfOk, IfErr};
+ghost use Rattle.fly_app.specs.Words.{IsCompile, IsRequest, IsFirstWrong, is_option as begins_as_option};
+ghost use Rattle.fly_app.specs.Command.{request_of};
 
 use fly_types::Text;
+
+/// A command that a command line asks for, with what its words name.
+#[derive(Clone, Copy, Debug)]
+pub enum Command<'w> {
+    /// Prints the closure of the bundle in this file.
+    Compile(&'w str),
+    /// Prints what the program does.
+    Help,
+    /// Prints the program's name and version.
+    Version,
+}
 
 /// Whether the word is an option.
 fn is_option(word: &str) -> bool
@@ -10,27 +22,45 @@ fn is_option(word: &str) -> bool
     word.as_bytes().starts_with(b"--")
 }
 
-/// The file of the command `compile`, or the number of the first wrong word. Where a word is missing, that is
-/// the number of the words.
-pub fn read_words(words: &[Text]) -> Result<&str, usize>
-    ensures file { IfOk result (λ path. IsCompile words.now path.now) }
-    ensures wrong { IfErr result (λ k. IsFirstWrong words.now k) }
+/// The file that stands behind the word `compile`, or the number of the first wrong word.
+fn file_of(rest: &[Text]) -> Result<&str, usize>
+    ensures file { IfOk result (λ path. IsCompile (codes "compile" ∷ rest.now) path.now) }
+    ensures wrong { IfErr result (λ k. IsFirstWrong (codes "compile" ∷ rest.now) k) }
 {
-    let Some((command, rest)) = words.split_first() else {
-        return Err(0);
-    };
-    if command.as_str() != "compile" {
-        return Err(0);
-    }
-    let Some((path, rest)) = rest.split_first() else {
+    let Some((path, more)) = rest.split_first() else {
         return Err(1);
     };
     if is_option(path.as_str()) {
         return Err(1);
     }
-    if rest.is_empty() {
+    if more.is_empty() {
         Ok(path.as_str())
     } else {
         Err(2)
     }
+}
+
+/// The command that the words are, or the number of the first wrong word. Where a word is missing, that is the
+/// number of the words.
+pub fn read_words(words: &[Text]) -> Result<Command<'_>, usize>
+    ensures command { IfOk result (λ c. IsRequest words.now (request_of c)) }
+    ensures wrong { IfErr result (λ k. IsFirstWrong words.now k) }
+{
+    let Some((command, rest)) = words.split_first() else {
+        return Err(0);
+    };
+    if command.as_str() == "compile" {
+        return match file_of(rest) {
+            Ok(path) => Ok(Command::Compile(path)),
+            Err(word) => Err(word),
+        };
+    }
+    let asked = if command.as_str() == "--help" {
+        Command::Help
+    } else if command.as_str() == "--version" {
+        Command::Version
+    } else {
+        return Err(0);
+    };
+    if rest.is_empty() { Ok(asked) } else { Err(1) }
 }

@@ -1,31 +1,31 @@
-use Rattle.std.proofs.Common.{sym, ap, ◌∙◌}
-use Rattle.fly_app.specs.Words.{is_option}
-use Rattle.fly_app.proofs.WordsLemmas.{empty_words, other_command, missing_file, option_for_file, file_command, third_word}
+use Rattle.std.proofs.Common.{ap, inl, inr, codes}
+use Rattle.fly_app.specs.Command.{request_of}
+use Rattle.fly_app.proofs.WordsLemmas.{empty_words, other_command, named, request_alone, request_and_more}
 use Rattle.fly_app.proofs.words.read_words.Goals as goal
+use Rattle.fly_app.proofs.words.read_words.Goals.{then-eq-2, else-eq-2+then-eq-3}
 
 pub returns-in_default-clause-wrong : goal.returns-in_default-clause-wrong
 returns-in_default-clause-wrong c = empty_words c.args.words.now c.in_default.ensures.cases
 
-pub returns-then-ne-clause-wrong : goal.returns-then-ne-clause-wrong
-returns-then-ne-clause-wrong c =
-    other_command c.args.words.now c.in-Some.rest.now c.in-Some.command.now c.as_str.result.now c.in-Some.ensures.cases.0 c.as_str.ensures c.if-ne.ensures
+pub returns-else-eq-3-clause-wrong : goal.returns-else-eq-3-clause-wrong
+returns-else-eq-3-clause-wrong c =
+    other_command c.args.words.now c.in-Some.rest.now c.in-Some.command.now c.as_str.result.now c.as_str-2.result.now c.as_str-else-eq-2.result.now c.in-Some.ensures.cases.0
+    c.as_str.ensures c.if-eq.ensures c.as_str-2.ensures c.if-eq-2.ensures c.as_str-else-eq-2.ensures c.if-eq-3.ensures
 
-pub returns-in_default-split_first-clause-wrong : goal.returns-in_default-split_first-clause-wrong
-returns-in_default-split_first-clause-wrong c =
-    missing_file c.args.words.now c.in-Some.rest.now c.in-Some.command.now c.as_str.result.now c.in-Some.ensures.cases.0 c.as_str.ensures c.if-ne.ensures
-    c.in_default-split_first.ensures.cases
-
-pub returns-then-is_option-clause-wrong : goal.returns-then-is_option-clause-wrong
-returns-then-is_option-clause-wrong c =
-    option_for_file c.args.words.now c.in-Some.rest.now c.in-Some-split_first.rest.now c.in-Some.command.now c.as_str.result.now c.in-Some-split_first.path.now
-    c.in-Some.ensures.cases.0 c.as_str.ensures c.if-ne.ensures c.in-Some-split_first.ensures.cases.0 (ap is_option (sym c.as_str-2.ensures) ∙ sym c.if-is_option.ensures)
-
-pub returns-then-is_empty-clause-file : goal.returns-then-is_empty-clause-file
-returns-then-is_empty-clause-file c =
-    rw (c.as_str-then-is_empty.ensures) (file_command c.args.words.now c.in-Some.rest.now c.in-Some-split_first.rest.now c.in-Some.command.now c.as_str.result.now c.in-Some-split_first.path.now
-    c.in-Some.ensures.cases.0 c.as_str.ensures c.if-ne.ensures c.in-Some-split_first.ensures.cases.0 (ap is_option (sym c.as_str-2.ensures) ∙ sym c.if-is_option.ensures) c.if-is_empty.ensures)
+pub returns-then-is_empty-clause-command : goal.returns-then-is_empty-clause-command
+returns-then-is_empty-clause-command c =
+    request_alone c.args.words.now c.in-Some.rest.now c.in-Some.command.now (request_of c.if-eq-2.asked) c.in-Some.ensures.cases.0
+    (elim c.if-eq-2.branch [
+      | then-eq-2 w ↦ inl (ap request_of w.asked-is, named c.in-Some.command.now c.as_str-2.result.now (codes "--help") c.as_str-2.ensures w.if-eq-2.ensures)
+      | else-eq-2+then-eq-3 w ↦ inr (ap request_of w.asked-is, named c.in-Some.command.now w.as_str-else-eq-2.result.now (codes "--version") w.as_str-else-eq-2.ensures w.if-eq-3.ensures)
+    ])
+    c.if-is_empty.ensures
 
 pub returns-else-is_empty-clause-wrong : goal.returns-else-is_empty-clause-wrong
 returns-else-is_empty-clause-wrong c =
-    third_word c.args.words.now c.in-Some.rest.now c.in-Some-split_first.rest.now c.in-Some.command.now c.as_str.result.now c.in-Some-split_first.path.now
-    c.in-Some.ensures.cases.0 c.as_str.ensures c.if-ne.ensures c.in-Some-split_first.ensures.cases.0 (ap is_option (sym c.as_str-2.ensures) ∙ sym c.if-is_option.ensures) c.if-is_empty.ensures
+    request_and_more c.args.words.now c.in-Some.rest.now c.in-Some.command.now (request_of c.if-eq-2.asked) c.in-Some.ensures.cases.0
+    (elim c.if-eq-2.branch [
+      | then-eq-2 w ↦ inl (ap request_of w.asked-is, named c.in-Some.command.now c.as_str-2.result.now (codes "--help") c.as_str-2.ensures w.if-eq-2.ensures)
+      | else-eq-2+then-eq-3 w ↦ inr (ap request_of w.asked-is, named c.in-Some.command.now w.as_str-else-eq-2.result.now (codes "--version") w.as_str-else-eq-2.ensures w.if-eq-3.ensures)
+    ])
+    c.if-is_empty.ensures

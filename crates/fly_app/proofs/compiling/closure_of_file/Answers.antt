@@ -1,5 +1,5 @@
 use Rattle.fly_app.proofs.FileReads.{compiles_file}
-use Rattle.fly_app.proofs.closure_of_file.closure_of_file.Goals as goal
+use Rattle.fly_app.proofs.compiling.closure_of_file.Goals as goal
 
 pub returns-in-Ok : goal.returns-in-Ok
 returns-in-Ok g c =

@@ -1,0 +1,22 @@
+-- What the program says of itself.
+use Rattle.std.specs.Prelude.{ℕ, List, ◌++◌, codes}
+use Rattle.fly_app.specs.Printing.{newline}
+
+abbrev pub version_text : List ℕ
+version_text = codes "flyte 0.1.0" ++ newline
+
+abbrev pub help_text : List ℕ
+help_text =
+    codes "flyte compiles workflows of typed tasks." ++ newline
+    ++ newline
+    ++ codes "  flyte compile BUNDLE   prints the closure of the bundle in the file BUNDLE" ++ newline
+    ++ codes "  flyte --help           prints this text" ++ newline
+    ++ codes "  flyte --version        prints the name and the version" ++ newline
+    ++ newline
+    ++ codes "Statuses:" ++ newline
+    ++ codes "  0  the answer was printed" ++ newline
+    ++ codes "  2  the words are no command: usage: word K, the number of the first wrong word, from 0" ++ newline
+    ++ codes "  3  the bundle is refused: a line for its first fault, bundle: KIND PLACE" ++ newline
+    ++ codes "  4  the file is absent or could not be read" ++ newline
+    ++ codes "  5  the answer could not be written" ++ newline
+    ++ codes "  6  there was no memory" ++ newline

@@ -1,0 +1,6 @@
+/// The program's name and version.
+pub const VERSION: &str = "flyte 0.1.0\n";
+
+/// What the program does, its commands and its statuses.
+pub const HELP: &str =
+    "flyte compiles workflows of typed tasks.\n\n  flyte compile BUNDLE   prints the closure of the bundle in the file BUNDLE\n  flyte --help           prints this text\n  flyte --version        prints the name and the version\n\nStatuses:\n  0  the answer was printed\n  2  the words are no command: usage: word K, the number of the first wrong word, from 0\n  3  the bundle is refused: a line for its first fault, bundle: KIND PLACE\n  4  the file is absent or could not be read\n  5  the answer could not be written\n  6  there was no memory\n";
