@@ -8,8 +8,6 @@ mod moves;
 mod phase;
 mod plan;
 mod slots;
-#[cfg(test)]
-mod tests;
 mod view;
 
 pub use entries::{Entry, Op, Reply};
