@@ -30,6 +30,7 @@ use Rattle.fly_values.specs.Scalars.{at_most, whole_value}
 use Rattle.fly_values.specs.Types.{variable_value, variables_value, interface_value}
 use Rattle.fly_values.specs.Documents.{retries_value, task_value, task_node_value, node_value, workflow_value, bundle_value}
 use Rattle.fly_idl.specs.Rows.{plain, field_with, id, id_form, bundle_number, workflow_number, node_number, bundle_row, workflow_row, node_row, message_table, bundle_form}
+use Rattle.fly_idl.proofs.TableRows.{has-bundle, has-workflow, has-node}
 use Rattle.fly_idl.proofs.Ordered.{IsOrdered, members_ordered, keys_ordered, field_ordered, items_ordered, ordered-read, all-map}
 use Rattle.fly_idl.proofs.Clear.{IsClear, field-clear, required-clear, message-clear, items-clear, text-clear}
 use Rattle.fly_idl.proofs.Ids.{id-fits}
@@ -215,18 +216,9 @@ pub unreported : (o : Option Fault) → option_map report_of o ≡ None → o �
 unreported None e = refl
 unreported (Some f) e = cc
 
-has-bundle_row : row_at message_table bundle_number ≡ bundle_row
-has-bundle_row = refl
-
-has-workflow_row : row_at message_table workflow_number ≡ workflow_row
-has-workflow_row = refl
-
-has-node_row : row_at message_table node_number ≡ node_row
-has-node_row = refl
-
 pub bundle-in_form : (bytes : List ℕ) (d : Data) → read bytes ≡ Some d → first_report message_table bundle_form
     d ≡ None
     → IsBundleInForm (bundle_value d)
 bundle-in_form bytes d was_read e =
-    bundle-form_by message_table has-bundle_row has-workflow_row has-node_row d (ordered-read bytes d was_read)
+    bundle-form_by message_table has-bundle has-workflow has-node d (ordered-read bytes d was_read)
     (unreported (fault_of message_table d bundle_form 0) e)

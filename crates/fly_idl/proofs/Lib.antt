@@ -1,10 +1,10 @@
 mod Bounded
 mod Bounds
-mod Clear
+pub mod Clear
 mod Form
 mod Ids
 mod Kept
-mod Ordered
+pub mod Ordered
 mod Readable
 mod ReadingLemmas
 mod SayingLemmas
@@ -14,3 +14,4 @@ mod SoundMaps
 mod SoundScalars
 mod SoundTrees
 mod SoundTypes
+pub mod TableRows

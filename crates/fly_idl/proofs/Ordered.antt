@@ -64,7 +64,7 @@ below_put l k d (member key x ms) e h =
     match_keys (Below l) (slice_cmp nat_cmp k key) (member k d (member key x ms)) (member key d ms)
     (member key x (put k d ms)) (λ _. (e, h)) (λ _. h) (λ _. (h.0, below_put l k d ms e h.1))
 
-keys_put : (k : List ℕ) (d : Data) (ms : Members) → AreKeysInOrder ms → AreKeysInOrder (put k d ms)
+pub keys_put : (k : List ℕ) (d : Data) (ms : Members) → AreKeysInOrder ms → AreKeysInOrder (put k d ms)
 unfolding IsStrictlySortedBy
 keys_put k d no_members h = (tt, tt)
 keys_put k d (member l x ms) h =
@@ -79,7 +79,7 @@ match_members Less a b c f g h = f
 match_members Equal a b c f g h = g
 match_members Greater a b c f g h = h
 
-members_put : (k : List ℕ) (d : Data) (ms : Members) → IsOrdered d → AreMembersOrdered ms
+pub members_put : (k : List ℕ) (d : Data) (ms : Members) → IsOrdered d → AreMembersOrdered ms
     → AreMembersOrdered (put k d ms)
 members_put k d no_members p h = (p, tt)
 members_put k d (member l x ms) p h =

@@ -23,6 +23,7 @@ use Rattle.fly_schema.specs.Reports.{first_report}
 use Rattle.fly_values.specs.Fields.{members_in, field, unless_null, truth_value, items_in, list_value}
 use Rattle.fly_values.specs.Documents.{task_value, task_node_value, node_value, workflow_value, bundle_value}
 use Rattle.fly_idl.specs.Rows.{plain, field_with, left_out, bundle_number, task_number, task_metadata_number, bundle_row, task_row, task_metadata_row, message_table, bundle_form}
+use Rattle.fly_idl.proofs.TableRows.{has-bundle, has-task, has-task_metadata}
 use Rattle.fly_idl.proofs.Ordered.{all-map}
 use Rattle.fly_idl.proofs.Clear.{IsClear, value-field, field-clear, message-clear, items-clear}
 use Rattle.fly_idl.proofs.Form.{unreported}
@@ -127,16 +128,7 @@ module _ (rows : List MessageRow) (has_bundle : row_at rows bundle_number ≡ bu
       any [] = tt
       any (x ∷ ds) = (tt, any ds)
 
-has-bundle_row : row_at message_table bundle_number ≡ bundle_row
-has-bundle_row = refl
-
-has-task_row : row_at message_table task_number ≡ task_row
-has-task_row = refl
-
-has-task_metadata_row : row_at message_table task_metadata_number ≡ task_metadata_row
-has-task_metadata_row = refl
-
 pub bundle-readable : (d : Data) → first_report message_table bundle_form d ≡ None → IsReadable (bundle_value d)
 bundle-readable d e =
-    bundle-readable_by message_table has-bundle_row has-task_row has-task_metadata_row d
+    bundle-readable_by message_table has-bundle has-task has-task_metadata d
     (unreported (fault_of message_table d bundle_form 0) e)

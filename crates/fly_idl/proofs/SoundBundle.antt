@@ -40,6 +40,7 @@ use Rattle.fly_idl.specs.Reading.{document_limit}
 use Rattle.fly_idl.proofs.Ordered.{IsOrdered, WhereSome, members_ordered, field_ordered, items_ordered, ordered-read, all-map}
 use Rattle.fly_idl.proofs.Bounds.{either, member-there, with, with_names}
 use Rattle.fly_idl.proofs.Clear.{IsClear, field-clear, required-clear, message-clear, items-clear, entries-clear, one_of-clear, member-clear, member_field-clear}
+use Rattle.fly_idl.proofs.TableRows.{has-bundle, has-task, has-workflow, has-node, has-interface, has-variable_map, has-variable, has-literal_type, has-union_type, has-literal, has-literal_list, has-literal_map, has-scalar, has-union, has-binding, has-binding_data, has-binding_list, has-binding_map}
 use Rattle.fly_idl.proofs.Form.{unreported}
 use Rattle.fly_idl.proofs.Bounded.{IsDataShort, members_short, field_short, member_short, items_short, data-short}
 use Rattle.fly_idl.proofs.SoundTypes.{type-sound}
@@ -115,10 +116,10 @@ variable-sound : (e : List ℕ × Data) → IsRead variable_number Same 0 e.1 �
 unfolding variable_value
 variable-sound e h =
     let ms = members_in e.1 in
-    let m = message-clear message_table variable_row variable_number Same 0 e.1 refl refl h.1 in
+    let m = message-clear message_table variable_row variable_number Same 0 e.1 has-variable refl h.1 in
     let kind = required-clear message_table ms 0 (plain (codes "type"))
     (record { shape = one; kind = message literal_type_number; level = First }) refl m.parts.0 in
-    type-sound message_table refl refl room room-fits type_depth (field (codes "type") ms) 0
+    type-sound message_table has-literal_type has-union_type room room-fits type_depth (field (codes "type") ms) 0
     (kept-field (codes "type") e.1 h.0).0 kind
 
 variables-sound : (d : Data) → IsKept d → IsClearHere variable_map_number d → HaveSoundTypes (variables_value d)
@@ -144,7 +145,7 @@ variables-sound d h e =
     by (inr found) =
         field-clear message_table (members_in d) 0
         (field_with optional (plain (codes "variables")) (map_by id_form) (message variable_number) Same) refl
-        (message-clear message_table variable_map_row variable_map_number Same 0 d refl refl found).parts.0
+        (message-clear message_table variable_map_row variable_map_number Same 0 d has-variable_map refl found).parts.0
 
 interface-sound : (d : Data) → IsKept d → IsClearHere interface_number d → IsSoundInterface (interface_value d)
 unfolding interface_value
@@ -158,7 +159,7 @@ interface-sound d h e = record {
     inputs (inr found) =
         field-clear message_table (members_in d) 0 (field_with optional (plain (codes "inputs")) one
         (message variable_map_number) Same)
-        refl (message-clear message_table interface_row interface_number Same 0 d refl refl found).parts.0
+        refl (message-clear message_table interface_row interface_number Same 0 d has-interface refl found).parts.0
 
     outputs : IsClearHere interface_number d → IsClearHere variable_map_number
         (field (codes "outputs") (members_in d))
@@ -166,7 +167,7 @@ interface-sound d h e = record {
     outputs (inr found) =
         field-clear message_table (members_in d) 0 (field_with optional (plain (codes "outputs")) one
         (message variable_map_number) Same)
-        refl (message-clear message_table interface_row interface_number Same 0 d refl refl found).parts.1.0
+        refl (message-clear message_table interface_row interface_number Same 0 d has-interface refl found).parts.1.0
 
 -- ---- what is bound
 
@@ -214,7 +215,8 @@ plain-sound level d h e =
     either IsSoundBound promise_value (member_at (codes "promise") (members_in d)) _
     (where_any (λ x. IsSoundBound (promise_value x)) _ sound-promise)
     (sound-scalar (scalar_value scalar)
-    (scalar-sound room room-small message_table refl refl refl refl refl refl refl level scalar
+    (scalar-sound room room-small message_table has-literal_type has-union_type has-literal has-literal_list
+    has-literal_map has-scalar has-union level scalar
     (kept-field (codes "scalar") d h) e))
 
 module _ (of : Data → Bound) (each : (l : Level) (level : ℕ) (d : Data) → IsRead binding_data_number l level d →
@@ -223,7 +225,7 @@ module _ (of : Data → Bound) (each : (l : Level) (level : ℕ) (d : Data) → 
       → IsSoundBound (bounds.Collection (bound_elements_by of d))
   unfolding bound_elements_by
   elements-sound level d h =
-      let m = message-clear message_table binding_list_row binding_list_number Deeper level d refl refl h.1 in
+      let m = message-clear message_table binding_list_row binding_list_number Deeper level d has-binding_list refl h.1 in
       let inside = field (codes "bindings") (members_in d) in
       let clear = items-clear message_table (message binding_data_number) Same (level + 1) inside
       (field-clear message_table (members_in d) (level + 1)
@@ -237,7 +239,7 @@ module _ (of : Data → Bound) (each : (l : Level) (level : ℕ) (d : Data) → 
       → IsSoundBound (bounds.Map (bound_entries_by of d))
   unfolding bound_entries_by
   entries-sound level d h =
-      let m = message-clear message_table binding_map_row binding_map_number Deeper level d refl refl h.1 in
+      let m = message-clear message_table binding_map_row binding_map_number Deeper level d has-binding_map refl h.1 in
       let inside = field (codes "bindings") (members_in d) in
       let kept = kept-field (codes "bindings") d h.0 in
       let es = entries_of (members_in inside) in
@@ -280,13 +282,13 @@ bound-sound : (k : ℕ) (l : Level) (level : ℕ) (d : Data) → IsRead binding_
 unfolding bound_at
 bound-sound zero l level d h =
     let here = level_after l level in
-    let m = message-clear message_table binding_data_row binding_data_number l level d refl refl h.1 in
+    let m = message-clear message_table binding_data_row binding_data_number l level d has-binding_data refl h.1 in
     let fields = one_of-clear message_table (members_in d) here true bound_members m.parts.0 in
     plain-sound here d h.0 (member_field-clear message_table (members_in d) here
     (field_with optional (plain (codes "scalar")) one (message scalar_number) Same) refl fields.0)
 bound-sound (suc k) l level d h =
     let here = level_after l level in
-    let m = message-clear message_table binding_data_row binding_data_number l level d refl refl h.1 in
+    let m = message-clear message_table binding_data_row binding_data_number l level d has-binding_data refl h.1 in
     let fields = one_of-clear message_table (members_in d) here true bound_members m.parts.0 in
     by-sound (bound_at k) (bound-sound k) here d h.0
     (member-clear message_table (members_in d) here
@@ -299,7 +301,7 @@ bound-sound (suc k) l level d h =
 binding-sound : (d : Data) → IsRead binding_number Same 0 d → IsSoundBound (binding_value d).bound
 unfolding binding_value
 binding-sound d h =
-    let m = message-clear message_table binding_row binding_number Same 0 d refl refl h.1 in
+    let m = message-clear message_table binding_row binding_number Same 0 d has-binding refl h.1 in
     let inside = required-clear message_table (members_in d) 0 (plain (codes "binding"))
     (record { shape = one; kind = message binding_data_number; level = Same }) refl m.parts.1.0 in
     bound-sound bound_depth Same 0 (field (codes "binding") (members_in d))
@@ -355,7 +357,7 @@ made-sound n bound target =
 node-sound : (d : Data) → IsRead node_number Same 0 d → IsSoundNode (node_value d)
 unfolding node_value
 node-sound d h =
-    let m = message-clear message_table node_row node_number Same 0 d refl refl h.1 in
+    let m = message-clear message_table node_row node_number Same 0 d has-node refl h.1 in
     made-sound (node_value d)
     (bindings-sound (field (codes "inputs") (members_in d)) (kept-field (codes "inputs") d h.0)
     (field-clear message_table (members_in d) 0 (field_with optional (plain (codes "inputs")) list
@@ -368,7 +370,7 @@ node-sound d h =
 task-sound : (d : Data) → IsRead task_number Same 0 d → IsSoundTask (task_value d)
 unfolding task_value
 task-sound d h =
-    let m = message-clear message_table task_row task_number Same 0 d refl refl h.1 in
+    let m = message-clear message_table task_row task_number Same 0 d has-task refl h.1 in
     interface-sound (field (codes "interface") (members_in d)) (kept-field (codes "interface") d h.0)
     (field-clear message_table (members_in d) 0 (field_with optional (plain (codes "interface")) one
     (message interface_number) Same)
@@ -378,7 +380,7 @@ workflow-sound : (d : Data) → IsRead workflow_number Same 0 d → IsSoundWorkf
 unfolding workflow_value
 workflow-sound d h =
     let ms = members_in d in
-    let m = message-clear message_table workflow_row workflow_number Same 0 d refl refl h.1 in
+    let m = message-clear message_table workflow_row workflow_number Same 0 d has-workflow refl h.1 in
     let nodes = field (codes "nodes") ms in record {
       interface = interface-sound (field (codes "interface") ms) (kept-field (codes "interface") d h.0)
           (field-clear message_table ms 0 (field_with optional (plain (codes "interface")) one
@@ -402,7 +404,7 @@ bundle-sound_by : (d : Data) → IsRead bundle_number Same 0 d → IsSoundBundle
 unfolding bundle_value
 bundle-sound_by d h =
     let ms = members_in d in
-    let m = message-clear message_table bundle_row bundle_number Same 0 d refl refl h.1 in
+    let m = message-clear message_table bundle_row bundle_number Same 0 d has-bundle refl h.1 in
     let tasks = field (codes "tasks") ms in
     let workflows = field (codes "workflows") ms in record {
       tasks = All-from_recursion IsSoundTask (list_value task_value tasks)

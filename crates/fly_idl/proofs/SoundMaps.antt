@@ -10,7 +10,7 @@ use Rattle.fly_docs.specs.Names.{IsId}
 use Rattle.fly_docs.specs.SoundDocuments.{IsSoundSubmission}
 use Rattle.fly_schema.specs.declared.table.Level.TheVariants.{Same}
 use Rattle.fly_schema.specs.Table.{message, one, optional}
-use Rattle.fly_schema.specs.Faults.{fault_of, row_at}
+use Rattle.fly_schema.specs.Faults.{fault_of}
 use Rattle.fly_schema.specs.Reports.{first_report}
 use Rattle.fly_values.specs.Fields.{members_in, field, text_value, items_in}
 use Rattle.fly_values.specs.Literals.{literal_map_value}
@@ -20,6 +20,7 @@ use Rattle.fly_idl.specs.Reading.{document_limit}
 use Rattle.fly_idl.proofs.Ordered.{IsOrdered, members_ordered, field_ordered, items_ordered, ordered-read, all-map}
 use Rattle.fly_idl.proofs.Clear.{IsClear, field-clear, required-clear, message-clear, items-clear, text-clear}
 use Rattle.fly_idl.proofs.Ids.{id-fits}
+use Rattle.fly_idl.proofs.TableRows.{has-submission, has-literal_type, has-union_type, has-literal, has-literal_list, has-literal_map, has-scalar, has-union}
 use Rattle.fly_idl.proofs.Form.{unreported}
 use Rattle.fly_idl.proofs.Bounded.{IsDataShort, members_short, field_short, items_short, data-short}
 use Rattle.fly_idl.proofs.SoundTrees.{both-all}
@@ -42,7 +43,9 @@ kept-read bytes d within e = (data-short room bytes d (omega (arith, within)) e,
 map-kept : (d : Data) → IsKept d
     → IsClear message_table (record { shape = one; kind = message literal_map_number; level = Same }) 0 d
     → IsSoundMap (literal_map_value d)
-map-kept d h e = map-sound room room-small message_table refl refl refl refl refl refl refl 0 d h e
+map-kept d h e =
+    map-sound room room-small message_table has-literal_type has-union_type has-literal has-literal_list
+    has-literal_map has-scalar has-union 0 d h e
 
 pub literal_map-sound : (bytes : List ℕ) (d : Data) → length bytes ≤ document_limit → read bytes ≡ Some d
     → first_report message_table literal_map_form d ≡ None → IsSoundMap (literal_map_value d)
@@ -50,9 +53,6 @@ literal_map-sound bytes d within was_read e =
     map-kept d (kept-read bytes d within was_read) (inr (unreported (fault_of message_table d literal_map_form 0) e))
 
 -- ---- submissions
-
-has-submission_row : row_at message_table submission_number ≡ submission_row
-has-submission_row = refl
 
 abbrev IsNamedAndSound : Submission → Type 0
 IsNamedAndSound s = IsId s.name × IsSoundSubmission s
@@ -66,7 +66,7 @@ submission-sound : (d : Data) → IsSubmissionRead d → IsNamedAndSound (submis
 unfolding submission_value
 submission-sound d h =
     let ms = members_in d in
-    let m = message-clear message_table submission_row submission_number Same 0 d has-submission_row refl h.1 in
+    let m = message-clear message_table submission_row submission_number Same 0 d has-submission refl h.1 in
     let name = required-clear message_table ms 0 (plain (codes "name"))
     (record { shape = one; kind = id; level = Same }) refl
     m.parts.0 in

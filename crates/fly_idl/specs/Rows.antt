@@ -427,7 +427,7 @@ submission_row = row [] (
     single (field_with required (plain (codes "name")) one id Same)
     ∷ single (field_with optional (plain (codes "inputs")) one (message literal_map_number) Same) ∷ [])
 
-abbrev pub message_table : List MessageRow
+unfoldable pub message_table : List MessageRow
 message_table =
     bundle_row
     ∷ identifier_row

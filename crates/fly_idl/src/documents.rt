@@ -16,7 +16,7 @@ use serde_json::Value;
 use std::alloc::Global;
 
 /// The most bytes that a document has, 16 MiB.
-const DOCUMENT_LIMIT: usize = 16 * 1024 * 1024;
+pub const DOCUMENT_LIMIT: u64 = 16 * 1024 * 1024;
 
 /// What a document is read as.
 pub trait Document: Drop {
@@ -54,7 +54,7 @@ fn read_tree(alloc: Global, form: &Form, bytes: &[u8]) -> Result<Value, DocFault
     ensures only { (d : Data) → IsFaultless (form_of form.now) bytes.now d → IfOk result (λ v. view v ≡ d) }
     ensures fault { IfErr result (IsFirstFault (form_of form.now) bytes.now) }
 {
-    if bytes.len() > DOCUMENT_LIMIT {
+    if bytes.len() as u64 > DOCUMENT_LIMIT {
         return Err(at_document(alloc, DocKind::TooLarge));
     }
     match Value::from_slice(alloc, bytes) {

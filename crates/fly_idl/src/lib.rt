@@ -7,5 +7,6 @@ mod rows;
 #[cfg(test)]
 mod tests;
 
+pub use documents::DOCUMENT_LIMIT;
 pub use fly_schema::{DocFault, DocKind};
 pub use readers::{read_bundle, read_literal_map, read_said, read_submissions};
