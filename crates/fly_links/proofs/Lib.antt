@@ -8,3 +8,11 @@ pub mod TotalLemmas
 pub mod PlanLemmas
 pub mod ReachLemmas
 pub mod RunLemmas
+pub mod RowLemmas
+pub mod LoopLemmas
+pub mod NamedLemmas
+pub mod RangeLemmas
+pub mod AroundLemmas
+pub mod LinkLemmas
+pub mod EdgeLemmas
+pub mod ConnectLemmas

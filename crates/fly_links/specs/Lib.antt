@@ -6,3 +6,8 @@ pub mod Totals
 pub mod Reach
 pub mod Reaches
 pub mod RunSize
+pub mod Rows
+pub mod Named
+pub mod Around
+pub mod Links
+pub mod Connecting

@@ -9,12 +9,22 @@ use fly_graph::{Graph, GraphFault};
 use fly_types::{List, NoMemory};
 use std::alloc::Global;
 
+/// For each place, whether it reaches itself along the targets. More places than 32 bits can number are wanting memory.
+pub fn recursive_marks(alloc: Global, targets: &[List<usize>]) -> Result<Vec<bool>, NoMemory>
+    requires { AreBelow (length targets.now) targets.now }
+    ensures len { IfOk result (λ marks. length marks.items ≡ length targets.now) }
+    ensures each { IfOk result (λ marks. (v : ℕ) → v < length targets.now
+        → slice_index_or marks.items v false ≡ reaches (edges_along targets.now) v v) }
+{
+    let Ok(count) = u32::try_from(targets.len()) else {
+        return Err(NoMemory);
+    };
+    let edges = edges_to(alloc, targets)?;
+    cyclic_marks(alloc, count, edges)
+}
+
 /// For each place, whether it reaches itself.
-pub fn cyclic_marks(
-    alloc: Global,
-    count: u32,
-    edges: List<(u32, u32)>,
-) -> Result<Vec<bool>, NoMemory>
+fn cyclic_marks(alloc: Global, count: u32, edges: List<(u32, u32)>) -> Result<Vec<bool>, NoMemory>
     requires { EndsBelow count edges }
     ensures len { IfOk result (λ marks. length marks.items ≡ count) }
     ensures each { IfOk result (λ marks. (v : ℕ) → v < count → slice_index_or marks.items v false ≡ reaches edges v v) }
@@ -41,7 +51,7 @@ fn widened(alloc: Global, numbers: &[u32]) -> Result<Vec<usize>, NoMemory>
 }
 
 /// The edges to the targets of each place.
-pub fn edges_to(alloc: Global, targets: &[List<usize>]) -> Result<List<(u32, u32)>, NoMemory>
+fn edges_to(alloc: Global, targets: &[List<usize>]) -> Result<List<(u32, u32)>, NoMemory>
     requires few { length targets.now < 2 ^ 32 }
     requires below { AreBelow (length targets.now) targets.now }
     ensures { IfOk result (λ edges. edges ≡ edges_along targets.now) }

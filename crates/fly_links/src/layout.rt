@@ -1,6 +1,7 @@
 //! The nodes of a workflow in plan order.
 ghost use Rattle.std.specs.Prelude.{◌≡◌, ◌<◌, ◌∷◌, ◌++◌, map, flat_map, length, IfOk, OnOk};
 ghost use Rattle.std.specs.Option.{option_copied};
+ghost use Rattle.fly_docs.specs.Plans as plans;
 ghost use Rattle.fly_docs.specs.Plans.{nodes_of, inner_nodes, node_named, place_named};
 ghost use Rattle.fly_links.specs.Layout.{is_repeated_at, case_node, inside};
 
@@ -71,6 +72,13 @@ impl<'a> Layout<'a> {
         self.nodes.as_slice()
     }
 
+    /// The node at a place.
+    pub fn node_at(&self, place: usize) -> Option<&'a Node>
+        ensures { option_copied result ≡ plans.node_at self.now place }
+    {
+        self.nodes.get(place).copied()
+    }
+
     /// The place of the node that an id names.
     pub fn place(&self, id: &Text) -> Option<usize>
         ensures { result ≡ place_named self.now id.now }
@@ -138,7 +146,7 @@ fn push_node<'a>(node: &'a Node, laid: &mut Vec<&'a Node>) -> Result<(), NoMemor
 
 /// Appends the nodes inside a branch.
 #[cycle(laying)]
-fn push_inside<'a>(target: &'a Target, laid: &mut Vec<&'a Node>) -> Result<(), NoMemory>
+pub fn push_inside<'a>(target: &'a Target, laid: &mut Vec<&'a Node>) -> Result<(), NoMemory>
     ensures { OnOk result (map (λ n. n.now) laid.new.items
         ≡ map (λ n. n.now) laid.old.items ++ inside target.now) }
 {

@@ -2,13 +2,12 @@
 ghost use Rattle.std.specs.Prelude.{◌≡◌, ℕ, ◌+◌, ◌<◌, ◌==◌, false, min, map, length, slice_index_or, IfOk};
 ghost use Rattle.std.specs.List.{list_any};
 ghost use Rattle.fly_docs.specs.Plans.{plan_of};
-ghost use Rattle.fly_docs.specs.Reaching.{reaches, reached_places, reached_tasks};
-ghost use Rattle.fly_links.specs.Search.{AreBelow, edges_along};
+ghost use Rattle.fly_docs.specs.Reaching.{reached_places, reached_tasks};
 ghost use Rattle.fly_links.specs.Reaches.{runs_by_place, is_reached_place, tasks_run};
 ghost use Rattle.fly_links.specs.Reach as reach;
 
 use crate::Directory;
-use crate::graph::{cyclic_marks, edges_to};
+use crate::graph::recursive_marks;
 use crate::marks::{both_marked, marks_of, picked};
 use crate::run_size::{RunSize, run_size};
 use crate::runs::{push_task_runs, runs_of};
@@ -147,20 +146,6 @@ fn reached_marks(
         Some(primary) => reached_from(alloc, runs, primary),
         None => Ok(vec![in alloc; false; bundle.workflows.len()]?),
     }
-}
-
-/// Which workflows reach themselves. More than 32 bits can number are wanting memory.
-fn recursive_marks(alloc: Global, runs: &[List<usize>]) -> Result<Vec<bool>, NoMemory>
-    requires { AreBelow (length runs.now) runs.now }
-    ensures len { IfOk result (λ marks. length marks.items ≡ length runs.now) }
-    ensures each { IfOk result (λ marks. (v : ℕ) → v < length runs.now
-        → slice_index_or marks.items v false ≡ reaches (edges_along runs.now) v v) }
-{
-    let Ok(count) = u32::try_from(runs.len()) else {
-        return Err(NoMemory);
-    };
-    let edges = edges_to(alloc, runs)?;
-    cyclic_marks(alloc, count, edges)
 }
 
 /// Which tasks the nodes of these workflows run.

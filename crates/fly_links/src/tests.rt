@@ -1,4 +1,4 @@
-use crate::{Directory, Layout, Reach};
+use crate::{Directory, Layout, Links, Reach, closure_of, connections};
 use fly_docs::{Bundle, Identifier, Interface, Node, Target, Task, Workflow};
 use fly_types::{List, NoMemory, Text};
 use std::alloc::Global;
@@ -107,6 +107,7 @@ fn nodes_are_found_by_their_ids(rt: HostRuntime) -> Result<(), Fail> {
     assert!(rt; !layout.is_repeated(0));
     assert_eq!(rt; layout.place(&id), Some(0));
     assert!(rt; layout.node(&id).is_some());
+    assert!(rt; layout.node_at(0).is_some());
     assert_eq!(rt; layout.workflow().nodes.len(), 1);
     Ok(())
 }
@@ -124,5 +125,65 @@ fn the_primary_reaches_what_it_runs(rt: HostRuntime) -> Result<(), Fail> {
     assert!(rt; !reach.nests_too_deep());
     assert_eq!(rt; reach.plan_size(), 2);
     assert_eq!(rt; reach.array_count(), 0);
+    Ok(())
+}
+
+/// How many nodes and rows there are, and how many nodes come first, come last and need themselves.
+fn link_counts(alloc: Global, layout: &Layout<'_>) -> Result<[usize; 6], NoMemory> {
+    let links = Links::of(alloc, layout)?;
+    let first = links.first_places(alloc)?;
+    let last = links.last_places(alloc)?;
+    let cyclic = links.cyclic_places(alloc)?;
+    let needed = links.needed_by().len();
+    let needing = links.needing().len();
+    let nodes = links.workflow().nodes.len();
+    Ok([
+        nodes,
+        needed,
+        needing,
+        first.len(),
+        last.len(),
+        cyclic.len(),
+    ])
+}
+
+fn connection_counts(alloc: Global, layout: &Layout<'_>) -> Result<[usize; 2], NoMemory> {
+    let connections = connections(alloc, layout)?;
+    Ok([connections.upstream.len(), connections.downstream.len()])
+}
+
+#[test]
+fn a_node_alone_is_first_and_last(rt: HostRuntime) -> Result<(), Fail> {
+    let alloc = rt.alloc();
+    let target = Target::Task(identifier(alloc, "inc")?);
+    let workflow = workflow(alloc, "main", target)?;
+    let layout = Layout::of(alloc, &workflow)?;
+    let counts = link_counts(alloc, &layout)?;
+    assert_eq!(rt; counts.as_slice(), [1, 1, 1, 1, 1, 0].as_slice());
+    let counts = connection_counts(alloc, &layout)?;
+    assert_eq!(rt; counts.as_slice(), [2, 2].as_slice());
+    Ok(())
+}
+
+/// How many other workflows, tasks and connections the closure has.
+fn closure_counts(alloc: Global, bundle: &Bundle) -> Result<[usize; 3], NoMemory> {
+    let directory = Directory::of(alloc, bundle)?;
+    let reach = Reach::of(alloc, &directory)?;
+    match closure_of(alloc, &directory, &reach)? {
+        Some(closure) => Ok([
+            closure.subs.len(),
+            closure.tasks.len(),
+            closure.connections.len(),
+        ]),
+        None => Ok([0, 0, 0]),
+    }
+}
+
+#[test]
+fn a_closure_has_what_is_reached(rt: HostRuntime) -> Result<(), Fail> {
+    let alloc = rt.alloc();
+    let bundle = bundle(alloc)?;
+    let counts = closure_counts(alloc, &bundle)?;
+    assert_eq!(rt; counts.as_slice(), [1, 1, 2].as_slice());
     Ok(())
 }
