@@ -14,12 +14,12 @@ use Rattle.fly_docs.specs.declared.binding.Binding.{Binding}
 use Rattle.fly_docs.specs.declared.binding.Bound.{Bound}
 use Rattle.fly_docs.specs.Bindings.{binding_of}
 use Rattle.fly_docs.specs.Fitting.{is_mapped, array_input_fits}
-use Rattle.fly_compile.specs.declared.fault.Code.TheVariants as code
+use Rattle.fly_faults.specs.declared.fault.Code.TheVariants as code
 use Rattle.fly_compile.specs.Arrays.{holds_of, holds_of_variable, is_unmapped}
-use Rattle.fly_compile.specs.BindingFaults.{Site}
-use Rattle.fly_compile.specs.NodeFaults.{bindings_of, is_bound_and_fits, is_mapped_by, unmapped_faults}
-use Rattle.fly_compile.specs.Places.{fault_at}
-use Rattle.fly_compile.proofs.Loops.{all-and, not-any}
+use Rattle.fly_faults.specs.BindingFaults.{Site}
+use Rattle.fly_faults.specs.NodeFaults.{bindings_of, is_bound_and_fits, is_mapped_by, unmapped_faults}
+use Rattle.fly_faults.specs.Places.{fault_at}
+use Rattle.fly_faults.proofs.Loops.{all-and, not-any}
 use Rattle.fly_compile.proofs.SortedNames.{others_differ}
 
 and_true : (b : Bool) → (b && true) ≡ b

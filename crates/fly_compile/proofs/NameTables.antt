@@ -7,11 +7,11 @@ use Rattle.std.specs.BTreeSet.{BTreeSet, contains, Updates}
 use Rattle.std.proofs.lemmas.Map.Text.{is_eq-slice_cmp}
 use Rattle.std.proofs.lemmas.List.Folds.{list_any-append}
 use Rattle.fly_docs.specs.declared.binding.Binding.{Binding}
-use Rattle.fly_compile.specs.declared.fault.Code.TheVariants as code
-use Rattle.fly_compile.specs.BindingFaults.{Site, twice_faults}
+use Rattle.fly_faults.specs.declared.fault.Code.TheVariants as code
+use Rattle.fly_faults.specs.BindingFaults.{Site, twice_faults}
 use Rattle.fly_compile.specs.BoundNames.{Loan, loan_cmp, HasNames}
-use Rattle.fly_compile.specs.Places.{fault_at, variable_place}
-use Rattle.fly_compile.proofs.Loops.{more}
+use Rattle.fly_faults.specs.Places.{fault_at, variable_place}
+use Rattle.fly_faults.proofs.Loops.{more}
 
 -- the names are those of one binding more
 pub names_more : (bindings : List Binding) (i : ℕ) (x : Binding) (names next : BTreeSet Loan) (name : Loan) → i < length bindings → x ≡ get_or bindings i x

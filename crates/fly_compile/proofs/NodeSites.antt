@@ -9,16 +9,16 @@ use Rattle.fly_types.specs.declared.text.Text.{Text}
 use Rattle.fly_types.specs.declared.variable.Variable.{Variable}
 use Rattle.fly_docs.specs.declared.binding.Binding.{Binding}
 use Rattle.fly_docs.specs.Bindings.{binding_of}
-use Rattle.fly_compile.specs.declared.fault.Code.{Code}
-use Rattle.fly_compile.specs.declared.fault.Fault.{Fault}
-use Rattle.fly_compile.specs.BindingFaults.{unbound_faults}
+use Rattle.fly_faults.specs.declared.fault.Code.{Code}
+use Rattle.fly_faults.specs.declared.fault.Fault.{Fault}
+use Rattle.fly_faults.specs.BindingFaults.{unbound_faults}
 use Rattle.fly_compile.specs.BoundNames.{Loan, HasNames, has_name, unnamed}
 use Rattle.fly_docs.specs.declared.node.Node.{Node}
 use Rattle.fly_compile.specs.declared.site.Site as kept
 use Rattle.fly_compile.specs.Scopes.{source_there}
 use Rattle.fly_compile.specs.Sites.{IsSiteOf, site_of}
-use Rattle.fly_compile.specs.NodeFaults.{is_empty, node_site}
-use Rattle.fly_compile.specs.Places.{fault_at, variable_place}
+use Rattle.fly_faults.specs.NodeFaults.{is_empty, node_site}
+use Rattle.fly_faults.specs.Places.{fault_at, variable_place}
 
 find-any : {X : Type 0} (p : X → Bool) (xs : List X) → not (list_any p xs) ≡ is_none (find p xs)
 find-any p [] = refl

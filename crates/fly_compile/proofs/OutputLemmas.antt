@@ -30,13 +30,13 @@ use Rattle.fly_docs.specs.Lookups.{task_named, workflow_named}
 use Rattle.fly_docs.specs.NodeInterfaces.{Found, of_type, no_variable, array_variable, outputs_by, case_outputs, node_outputs, outputs_of, source_in}
 use Rattle.fly_compile.specs.declared.outputs.Output.{Output}
 use Rattle.fly_compile.specs.declared.outputs.Outputs.{Outputs}
-use Rattle.fly_compile.specs.declared.output_type.OutputType.{OutputType}
-use Rattle.fly_compile.specs.declared.output_type.Origin.{Origin}
-use Rattle.fly_compile.specs.declared.output_type.Origin.TheVariants as origin
+use Rattle.fly_faults.specs.declared.output_type.OutputType.{OutputType}
+use Rattle.fly_faults.specs.declared.output_type.Origin.{Origin}
+use Rattle.fly_faults.specs.declared.output_type.Origin.TheVariants as origin
 use Rattle.fly_types.proofs.SameLemmas.{answers_same_type}
-use Rattle.fly_compile.specs.OutputTypes.{item_type, type_of_output, source_of_origin}
+use Rattle.fly_faults.specs.OutputTypes.{item_type, type_of_output, source_of_origin}
 use Rattle.fly_compile.specs.Outputs.{output_variable, item_variable, outputs_value, known_variables, AreOutputsSorted, common_of, source_found}
-use Rattle.fly_compile.proofs.Loops.{more}
+use Rattle.fly_faults.proofs.Loops.{more}
 use Rattle.fly_compile.proofs.SortedNames.{name_of, find-map, map-names, sorted_filter, same_kind, has_variable-by}
 
 -- ---- promises of a variable

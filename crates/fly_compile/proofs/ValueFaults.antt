@@ -6,12 +6,12 @@ use Rattle.fly_docs.specs.declared.binding.Binding.{Binding}
 use Rattle.fly_docs.specs.declared.binding.Bound.{Bound}
 use Rattle.fly_docs.specs.Bindings.{promises_of}
 use Rattle.fly_docs.specs.NodeInterfaces.{Source, Wanted}
-use Rattle.fly_compile.specs.declared.fault.Code.TheVariants as code
+use Rattle.fly_faults.specs.declared.fault.Code.TheVariants as code
 use Rattle.fly_compile.specs.declared.promises.Promise.{Promise}
-use Rattle.fly_compile.specs.BindingFaults.{Site, is_no_node, is_no_variable, has_source, fits_wanted, misfit, node_faults, variable_faults, value_faults}
-use Rattle.fly_compile.specs.Places.{variable_place, fault_with}
+use Rattle.fly_faults.specs.BindingFaults.{Site, is_no_node, is_no_variable, has_source, fits_wanted, misfit, node_faults, variable_faults, value_faults}
+use Rattle.fly_faults.specs.Places.{variable_place, fault_with}
 use Rattle.fly_compile.specs.Promises.{known, with_sources}
-use Rattle.fly_compile.proofs.Loops.{through, any-through}
+use Rattle.fly_faults.proofs.Loops.{through, any-through}
 
 -- a test of the promises that were found
 pub has-test : (is_such : Source → Bool) (site : Site) (x : Bound) (ps : List Promise) (r : Bool) → map known ps ≡ with_sources site.source (promises_of x)

@@ -4,11 +4,11 @@ use Rattle.std.specs.List.{list_any, enumerate_from}
 use Rattle.fly_docs.specs.declared.binding.Binding.{Binding}
 use Rattle.fly_docs.specs.declared.node.Case.{Case}
 use Rattle.fly_docs.specs.Conditions.{branch_variables, condition_fault}
-use Rattle.fly_compile.specs.declared.fault.Code.TheVariants as code
-use Rattle.fly_compile.specs.declared.fault.Fault.{Fault}
-use Rattle.fly_compile.specs.BindingFaults.{Site, is_anything, has_source, bindings_faults}
-use Rattle.fly_compile.specs.NodeFaults.{is_empty, kind_text}
-use Rattle.fly_compile.specs.Places.{fault_with}
+use Rattle.fly_faults.specs.declared.fault.Code.TheVariants as code
+use Rattle.fly_faults.specs.declared.fault.Fault.{Fault}
+use Rattle.fly_faults.specs.BindingFaults.{Site, is_anything, has_source, bindings_faults}
+use Rattle.fly_faults.specs.NodeFaults.{is_empty, kind_text}
+use Rattle.fly_faults.specs.Places.{fault_with}
 
 -- the same as that of a node with these inputs and cases
 abbrev pub condition_faults_of : Site → List Binding → List Case → List Fault

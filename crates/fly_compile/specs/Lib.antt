@@ -1,14 +1,8 @@
-pub mod TypeText
-pub mod OutputTypes
 pub mod Scopes
 pub mod Outputs
 pub mod Promises
-pub mod Places
-pub mod BindingFaults
 pub mod Sites
 pub mod BoundNames
-pub mod NodeFaults
 pub mod Branches
 pub mod Arrays
-pub mod FaultList
-pub mod Laws
+pub mod Compiler

@@ -14,7 +14,7 @@ use Rattle.fly_docs.specs.Plans.{nodes_of}
 use Rattle.fly_compile.specs.declared.outputs.Output.{Output}
 use Rattle.fly_compile.specs.declared.outputs.Outputs.{Outputs}
 use Rattle.fly_compile.specs.declared.outputs.Outputs.TheVariants as outputs
-use Rattle.fly_compile.specs.OutputTypes.{item_type, type_of_output}
+use Rattle.fly_faults.specs.OutputTypes.{item_type, type_of_output}
 
 abbrev pub output_variable : Output → Variable
 output_variable o = record { name = o.name.now; kind = type_of_output o.kind }

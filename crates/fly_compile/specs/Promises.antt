@@ -2,7 +2,7 @@
 use Rattle.std.specs.Prelude.{List, map}
 use Rattle.fly_docs.specs.Bindings.{Promised}
 use Rattle.fly_docs.specs.NodeInterfaces.{Source}
-use Rattle.fly_compile.specs.OutputTypes.{source_of_origin}
+use Rattle.fly_faults.specs.OutputTypes.{source_of_origin}
 use Rattle.fly_compile.specs.declared.promises.Promise.{Promise}
 
 -- a promise with its source

@@ -9,7 +9,7 @@ use Rattle.fly_docs.specs.declared.node.Case.{Case}
 use Rattle.fly_docs.specs.declared.node.Target.{Target, out-Target}
 use Rattle.fly_docs.specs.declared.node.Target.TheOpen.{Target-F}
 use Rattle.fly_docs.specs.declared.workflow.Bundle.{Bundle}
-use Rattle.fly_compile.specs.Places.{node_place}
+use Rattle.fly_faults.specs.Places.{node_place}
 use Rattle.fly_docs.specs.Layer.{BoundLayer}
 use Rattle.fly_docs.specs.Bindings.{Promised, source_node}
 use Rattle.fly_docs.specs.NodeInterfaces as interfaces
@@ -19,7 +19,7 @@ use Rattle.fly_compile.specs.declared.site.Wanted.{Wanted}
 use Rattle.fly_compile.specs.declared.site.Wanted.TheVariants as wanted
 use Rattle.fly_compile.specs.declared.site.Site.{Site}
 use Rattle.fly_compile.specs.Scopes.{source_there}
-use Rattle.fly_compile.specs.BindingFaults as faults
+use Rattle.fly_faults.specs.BindingFaults as faults
 
 abbrev pub wanted_value : Wanted → interfaces.Wanted
 wanted_value (wanted.Value t) = interfaces.value t.now

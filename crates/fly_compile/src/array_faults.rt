@@ -5,25 +5,25 @@ ghost use Rattle.fly_types.specs.Levels.{max_levels, type_levels};
 ghost use Rattle.fly_types.specs.Lookup.{AreVariablesSorted};
 ghost use Rattle.fly_docs.specs.Bindings.{binding_of};
 ghost use Rattle.fly_docs.specs.Fitting as fitting;
-ghost use Rattle.fly_compile.specs.OutputTypes.{list_of_items};
+ghost use Rattle.fly_faults.specs.OutputTypes.{list_of_items};
 ghost use Rattle.fly_compile.specs.Arrays.{holds_of_variable, is_unmapped};
-ghost use Rattle.fly_compile.specs.NodeFaults as spec;
-ghost use Rattle.fly_compile.specs.Places as places;
+ghost use Rattle.fly_faults.specs.NodeFaults as spec;
+ghost use Rattle.fly_faults.specs.Places as places;
 ghost use Rattle.fly_compile.specs.Scopes.{source_there};
 ghost use Rattle.fly_compile.specs.Sites.{site_of};
 
 use crate::fits::{does_array_input_fit, is_mapped};
-use crate::report::{report_at, variable_place};
 use crate::site::Site;
 use crate::sources::Sources;
 use crate::{Code, Fault};
 use fly_docs::Binding;
+use fly_faults::{report_at, variable_place};
 use fly_types::{List, LiteralType, NoMemory, Text, Variable, find_variable};
 use std::alloc::Global;
 
 fn does_its_variable_fit(
     alloc: Global,
-    sources: &Sources<'_>,
+    sources: &Sources<'_, '_>,
     variables: &List<Variable>,
     x: &Binding,
 ) -> Result<bool, NoMemory>
@@ -39,7 +39,7 @@ fn does_its_variable_fit(
 /// Whether what is bound to each of the variables fits.
 fn do_inputs_fit(
     alloc: Global,
-    sources: &Sources<'_>,
+    sources: &Sources<'_, '_>,
     variables: &List<Variable>,
     bindings: &[Binding],
 ) -> Result<bool, NoMemory>
@@ -56,7 +56,7 @@ fn do_inputs_fit(
 
 fn is_its_variable_unmapped(
     alloc: Global,
-    sources: &Sources<'_>,
+    sources: &Sources<'_, '_>,
     variables: &List<Variable>,
     x: &Binding,
 ) -> Result<bool, NoMemory>
@@ -72,7 +72,7 @@ fn is_its_variable_unmapped(
 /// Whether none of the variables is mapped.
 fn are_inputs_unmapped(
     alloc: Global,
-    sources: &Sources<'_>,
+    sources: &Sources<'_, '_>,
     variables: &List<Variable>,
     bindings: &[Binding],
 ) -> Result<bool, NoMemory>
@@ -91,7 +91,7 @@ fn are_inputs_unmapped(
 pub(crate) fn push_unmapped_faults(
     alloc: Global,
     faults: &mut Vec<Fault>,
-    site: &Site<'_>,
+    site: &Site<'_, '_, '_>,
     variables: &List<Variable>,
     bindings: &[Binding],
     are_bound: bool,

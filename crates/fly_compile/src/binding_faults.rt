@@ -3,20 +3,20 @@ ghost use Rattle.std.specs.Prelude.{◌≡◌, ◌++◌, ◌∷◌, [], if◌the
 ghost use Rattle.std.specs.List.{list_any, enumerate_from};
 ghost use Rattle.std.specs.BTreeSet.{contains};
 ghost use Rattle.fly_docs.specs.Bindings as bindings;
-ghost use Rattle.fly_compile.specs.BindingFaults as spec;
+ghost use Rattle.fly_faults.specs.BindingFaults as spec;
 ghost use Rattle.fly_compile.specs.BoundNames.{HasNames, has_name};
-ghost use Rattle.fly_compile.specs.OutputTypes.{source_of_origin};
-ghost use Rattle.fly_compile.specs.Places as places;
+ghost use Rattle.fly_faults.specs.OutputTypes.{source_of_origin};
+ghost use Rattle.fly_faults.specs.Places as places;
 ghost use Rattle.fly_compile.specs.Promises.{known, with_sources};
 ghost use Rattle.fly_compile.specs.Scopes.{source_there};
 ghost use Rattle.fly_compile.specs.Sites.{wanted_value, site_of, HasSortedNames};
 
 use crate::misfits::{fits_wanted, misfit};
 use crate::promises::{Promise, promises_of};
-use crate::report::{concatenated, report_at, report_with, variable_place};
 use crate::site::Site;
 use crate::{Code, Fault};
 use fly_docs::Binding;
+use fly_faults::{concatenated, report_at, report_with, variable_place};
 use fly_types::{NoMemory, Text, Variable};
 use std::alloc::Global;
 use std::collections::BTreeSet;
@@ -107,7 +107,7 @@ fn lacks_variable(promises: &[Promise<'_>]) -> bool
 fn push_value_faults(
     alloc: Global,
     faults: &mut Vec<Fault>,
-    site: &Site<'_>,
+    site: &Site<'_, '_, '_>,
     promises: &[Promise<'_>],
     x: &Binding,
     place: &Text,
@@ -137,7 +137,7 @@ fn push_value_faults(
 fn push_wanted_faults(
     alloc: Global,
     faults: &mut Vec<Fault>,
-    site: &Site<'_>,
+    site: &Site<'_, '_, '_>,
     x: &Binding,
     place: &Text,
 ) -> Result<(), NoMemory>
@@ -173,7 +173,7 @@ fn push_twice_faults(
 fn push_binding_faults<'a>(
     alloc: Global,
     faults: &mut Vec<Fault>,
-    site: &Site<'a>,
+    site: &Site<'_, '_, 'a>,
     x: &'a Binding,
     is_first: bool,
 ) -> Result<(), NoMemory>
@@ -198,7 +198,7 @@ fn push_binding_faults<'a>(
 pub(crate) fn push_bindings_faults<'a>(
     alloc: Global,
     faults: &mut Vec<Fault>,
-    site: &Site<'a>,
+    site: &Site<'_, '_, 'a>,
     bindings: &'a [Binding],
 ) -> Result<BTreeSet<&'a str>, NoMemory>
     requires sorted { HasSortedNames site.now.inputs }

@@ -3,9 +3,9 @@ ghost use Rattle.std.specs.Prelude.{◌≡◌, ◌++◌, ◌∷◌, [], map, fil
 ghost use Rattle.std.specs.List.{list_any, enumerate_from};
 ghost use Rattle.fly_docs.specs.Conditions as conditions;
 ghost use Rattle.fly_docs.specs.Bindings as bindings;
-ghost use Rattle.fly_compile.specs.BindingFaults as faulty;
-ghost use Rattle.fly_compile.specs.NodeFaults as spec;
-ghost use Rattle.fly_compile.specs.Places as places;
+ghost use Rattle.fly_faults.specs.BindingFaults as faulty;
+ghost use Rattle.fly_faults.specs.NodeFaults as spec;
+ghost use Rattle.fly_faults.specs.Places as places;
 ghost use Rattle.fly_compile.specs.Promises.{known};
 ghost use Rattle.fly_compile.specs.Scopes.{source_there};
 ghost use Rattle.fly_compile.specs.Sites.{site_of};
@@ -13,19 +13,19 @@ ghost use Rattle.fly_compile.specs.Branches.{condition_faults_of};
 
 use crate::misfits::bound_primitive;
 use crate::promises::{Promise, promises_of};
-use crate::report::report_with;
 use crate::site::Site;
 use crate::sources::Sources;
 use crate::{Code, Fault};
 use fly_docs::{Binding, Case};
 use fly_exprs::{ExprFault, expr_fault};
+use fly_faults::report_with;
 use fly_types::{List, NoMemory, Simple, Text};
 use std::alloc::Global;
 
 fn push_branch_variable(
     alloc: Global,
     variables: &mut Vec<(Text, Simple)>,
-    sources: &Sources<'_>,
+    sources: &Sources<'_, '_>,
     x: &Binding,
 ) -> Result<(), NoMemory>
     ensures { OnOk result (variables.new.items ≡ variables.old.items
@@ -41,7 +41,7 @@ fn push_branch_variable(
 /// The inputs of a branch that conditions may name, with their primitive types.
 fn branch_variables(
     alloc: Global,
-    sources: &Sources<'_>,
+    sources: &Sources<'_, '_>,
     bindings: &[Binding],
 ) -> Result<List<(Text, Simple)>, NoMemory>
     ensures { IfOk result (λ variables. variables ≡ conditions.branch_variables (source_there sources.now) bindings.now) }
@@ -127,7 +127,7 @@ fn has_anything(promises: &[Promise<'_>]) -> bool
 /// Whether a promise of anything is bound.
 fn bind_anything<'a>(
     alloc: Global,
-    sources: &Sources<'a>,
+    sources: &Sources<'_, 'a>,
     inputs: &'a [Binding],
 ) -> Result<bool, NoMemory>
     ensures { IfOk result (λ r. r ≡ list_any (λ x. list_any (λ promise. faulty.is_anything (source_there sources.now promise)) (bindings.promises_of x.bound)) inputs.now) }
@@ -145,7 +145,7 @@ fn bind_anything<'a>(
 pub(crate) fn push_condition_faults<'a>(
     alloc: Global,
     faults: &mut Vec<Fault>,
-    site: &Site<'a>,
+    site: &Site<'_, '_, 'a>,
     inputs: &'a [Binding],
     cases: &[Case],
     are_sound: bool,

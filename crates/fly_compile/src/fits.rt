@@ -16,7 +16,7 @@ use std::alloc::Global;
 /// Whether what is bound may go where a value of the type is wanted. Takes no memory, and time in the sizes of what is
 /// bound, of the types that are promised and of the type, times the type's levels.
 #[cycle(bound_fits)]
-pub(crate) fn does_bound_fit(sources: &Sources<'_>, x: &Bound, kind: &LiteralType) -> bool
+pub(crate) fn does_bound_fit(sources: &Sources<'_, '_>, x: &Bound, kind: &LiteralType) -> bool
     ensures { result ≡ bound_fits (source_there sources.now) x.now kind.now }
 {
     match x {
@@ -38,7 +38,7 @@ pub(crate) fn does_bound_fit(sources: &Sources<'_>, x: &Bound, kind: &LiteralTyp
 }
 
 #[cycle(bound_fits)]
-fn do_bounds_fit(sources: &Sources<'_>, elements: &[Bound], kind: &LiteralType) -> bool
+fn do_bounds_fit(sources: &Sources<'_, '_>, elements: &[Bound], kind: &LiteralType) -> bool
     ensures { result ≡ list_all (λ e. bound_fits (source_there sources.now) e kind.now) elements.now }
 {
     for element in elements {
@@ -50,7 +50,7 @@ fn do_bounds_fit(sources: &Sources<'_>, elements: &[Bound], kind: &LiteralType) 
 }
 
 #[cycle(bound_fits)]
-fn do_entries_fit(sources: &Sources<'_>, entries: &[(Text, Bound)], kind: &LiteralType) -> bool
+fn do_entries_fit(sources: &Sources<'_, '_>, entries: &[(Text, Bound)], kind: &LiteralType) -> bool
     ensures { result ≡ list_all (λ e. bound_fits (source_there sources.now) e.1 kind.now) entries.now }
 {
     for (_, value) in entries {
@@ -64,7 +64,7 @@ fn do_entries_fit(sources: &Sources<'_>, entries: &[(Text, Bound)], kind: &Liter
 /// The one type that what is bound fits. None where there are two, or none.
 #[cycle(bound_fits)]
 fn only_fitting<'b>(
-    sources: &Sources<'_>,
+    sources: &Sources<'_, '_>,
     x: &Bound,
     variants: &'b [LiteralType],
 ) -> Option<&'b LiteralType>
@@ -85,7 +85,7 @@ fn only_fitting<'b>(
 /// Whether what is bound to the input of an array is a list, with one element for each item.
 pub(crate) fn is_mapped(
     alloc: Global,
-    sources: &Sources<'_>,
+    sources: &Sources<'_, '_>,
     x: &Bound,
     kind: &LiteralType,
 ) -> Result<bool, NoMemory>
@@ -98,7 +98,7 @@ pub(crate) fn is_mapped(
 /// Whether what is bound to the input of an array is a list, or else one value for all items.
 pub(crate) fn does_array_input_fit(
     alloc: Global,
-    sources: &Sources<'_>,
+    sources: &Sources<'_, '_>,
     x: &Bound,
     kind: &LiteralType,
 ) -> Result<bool, NoMemory>

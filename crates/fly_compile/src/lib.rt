@@ -3,23 +3,20 @@
 
 mod array_faults;
 mod binding_faults;
+mod bundle_faults;
+mod compiler;
 mod condition_faults;
-mod fault;
 mod fits;
-mod laws;
 mod misfits;
 mod node_checks;
 mod node_faults;
 mod node_inputs;
-mod output_type;
 mod outputs;
 mod promises;
-mod report;
+mod run_faults;
 mod site;
 mod sources;
-#[cfg(test)]
-mod tests;
-mod type_text;
+mod workflow_faults;
 
-pub use fault::{Code, CompileFault, Fault};
-pub use laws::no_faults_exactly_where_typed;
+pub use compiler::compile;
+pub use fly_faults::{Code, CompileFault, Fault, no_faults_exactly_where_typed};

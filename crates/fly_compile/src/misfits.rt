@@ -5,25 +5,23 @@ ghost use Rattle.fly_types.specs.declared.kinds.LiteralType.{out-LiteralType};
 ghost use Rattle.fly_docs.specs.declared.binding.Bound.{out-Bound};
 ghost use Rattle.fly_types.specs.declared.literals.Literal.{out-Literal};
 ghost use Rattle.fly_docs.specs.Conditions as conditions;
-ghost use Rattle.fly_compile.specs.BindingFaults as faults;
-ghost use Rattle.fly_compile.specs.Places as places;
+ghost use Rattle.fly_faults.specs.BindingFaults as faults;
+ghost use Rattle.fly_faults.specs.Places as places;
 ghost use Rattle.fly_compile.specs.Scopes.{source_there};
 ghost use Rattle.fly_compile.specs.Sites.{wanted_value, site_of, is_promise_of_anything_there};
-ghost use Rattle.fly_compile.specs.TypeText.{quoted};
+ghost use Rattle.fly_faults.specs.TypeText.{quoted};
 
 use crate::fits::{does_array_input_fit, does_bound_fit};
-use crate::output_type::if_primitive;
-use crate::report::concatenated;
 use crate::site::{Site, Wanted};
 use crate::sources::Sources;
-use crate::type_text::quoted;
 use crate::{Code, Fault};
 use fly_docs::{Binding, Bound};
+use fly_faults::{concatenated, if_primitive, quoted};
 use fly_types::{Literal, LiteralType, NoMemory, Simple, Text, simple_type};
 use std::alloc::Global;
 
 /// The primitive type of what is bound, where that is known.
-pub(crate) fn bound_primitive(sources: &Sources<'_>, x: &Bound) -> Option<Simple>
+pub(crate) fn bound_primitive(sources: &Sources<'_, '_>, x: &Bound) -> Option<Simple>
     ensures { result ≡ conditions.bound_primitive_in (source_there sources.now) (out-Bound x.now) }
 {
     match x {
@@ -36,7 +34,7 @@ pub(crate) fn bound_primitive(sources: &Sources<'_>, x: &Bound) -> Option<Simple
     }
 }
 
-fn is_promise_of_anything(sources: &Sources<'_>, x: &Bound) -> bool
+fn is_promise_of_anything(sources: &Sources<'_, '_>, x: &Bound) -> bool
     ensures { result ≡ is_promise_of_anything_there (source_there sources.now) (out-Bound x.now) }
 {
     match x {
@@ -48,7 +46,7 @@ fn is_promise_of_anything(sources: &Sources<'_>, x: &Bound) -> bool
 /// Whether what is bound is what is wanted.
 pub(crate) fn fits_wanted(
     alloc: Global,
-    site: &Site<'_>,
+    site: &Site<'_, '_, '_>,
     x: &Bound,
     wanted: Wanted<'_>,
 ) -> Result<bool, NoMemory>
@@ -96,7 +94,7 @@ fn illegal_text<'a>(x: &'a Bound, wanted: Wanted<'_>) -> Option<&'a Text>
 }
 
 /// The type of a promise, else the word `value`.
-fn bound_text(alloc: Global, site: &Site<'_>, x: &Bound) -> Result<Text, NoMemory>
+fn bound_text(alloc: Global, site: &Site<'_, '_, '_>, x: &Bound) -> Result<Text, NoMemory>
     ensures { IfOk result (λ t. t ≡ faults.bound_text (site_of site.now) (out-Bound x.now)) }
 {
     match x {
@@ -108,7 +106,7 @@ fn bound_text(alloc: Global, site: &Site<'_>, x: &Bound) -> Result<Text, NoMemor
 /// The fault of a value that does not fit.
 pub(crate) fn misfit(
     alloc: Global,
-    site: &Site<'_>,
+    site: &Site<'_, '_, '_>,
     x: &Binding,
     wanted: Wanted<'_>,
     place: &Text,
@@ -136,7 +134,7 @@ fn illegal_value(alloc: Global, place: Text, text: &Text) -> Result<Fault, NoMem
 
 fn mismatch(
     alloc: Global,
-    site: &Site<'_>,
+    site: &Site<'_, '_, '_>,
     x: &Binding,
     wanted: Wanted<'_>,
     place: Text,

@@ -5,14 +5,14 @@ ghost use Rattle.std.specs.Str.{bytes_eq};
 ghost use Rattle.fly_docs.specs.Names.{start_node, end_node};
 ghost use Rattle.fly_docs.specs.Plans.{nodes_of, node_ids};
 ghost use Rattle.fly_links.specs.Layout.{id_at};
-ghost use Rattle.fly_compile.specs.NodeFaults as spec;
-ghost use Rattle.fly_compile.specs.Places as places;
+ghost use Rattle.fly_faults.specs.NodeFaults as spec;
+ghost use Rattle.fly_faults.specs.Places as places;
 ghost use Rattle.fly_compile.specs.Sites.{IsSiteOf};
 
-use crate::report::{report_at, report_with};
 use crate::site::Site;
 use crate::{Code, Fault};
 use fly_docs::{Case, END_NODE, Node, START_NODE, Target};
+use fly_faults::{report_at, report_with};
 use fly_links::Layout;
 use fly_types::{NoMemory, Text};
 use std::alloc::Global;
@@ -56,7 +56,7 @@ pub(crate) fn push_id_faults(
 pub(crate) fn push_target_faults(
     alloc: Global,
     faults: &mut Vec<Fault>,
-    site: &Site<'_>,
+    site: &Site<'_, '_, '_>,
     node: &Node,
 ) -> Result<(), NoMemory>
     requires { IsSiteOf node.now site.now }

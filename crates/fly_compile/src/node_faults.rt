@@ -6,10 +6,10 @@ ghost use Rattle.fly_docs.specs.declared.node.Target.{out-Target};
 ghost use Rattle.fly_docs.specs.Bindings.{binding_of};
 ghost use Rattle.fly_docs.specs.Form.{IsBundleInForm};
 ghost use Rattle.fly_docs.specs.Plans.{nodes_of};
-ghost use Rattle.fly_compile.specs.BindingFaults as faulty;
+ghost use Rattle.fly_faults.specs.BindingFaults as faulty;
 ghost use Rattle.fly_compile.specs.BoundNames.{HasNames, unnamed};
-ghost use Rattle.fly_compile.specs.NodeFaults as spec;
-ghost use Rattle.fly_compile.specs.Places as places;
+ghost use Rattle.fly_faults.specs.NodeFaults as spec;
+ghost use Rattle.fly_faults.specs.Places as places;
 ghost use Rattle.fly_compile.specs.Sites.{HasSortedNames, IsSiteOf, input_variables, site_of};
 
 use crate::array_faults::{push_depth_faults, push_unmapped_faults};
@@ -19,11 +19,11 @@ use crate::node_checks::{
     cases_of, push_id_faults, push_no_condition_faults, push_target_faults, push_upstream_faults,
 };
 use crate::node_inputs::node_inputs;
-use crate::report::concatenated;
 use crate::site::{Inputs, Site};
 use crate::sources::Sources;
 use crate::{Code, Fault};
 use fly_docs::{Binding, Node, Target, Task, Workflow};
+use fly_faults::concatenated;
 use fly_types::{NoMemory, Text, Variable};
 use std::alloc::Global;
 use std::collections::BTreeSet;
@@ -39,7 +39,7 @@ fn node_place(alloc: Global, workflow: &Workflow, node: &Node) -> Result<Text, N
 fn push_checked_bindings<'a>(
     alloc: Global,
     faults: &mut Vec<Fault>,
-    site: &Site<'a>,
+    site: &Site<'_, '_, 'a>,
     inputs: &'a [Binding],
 ) -> Result<(BTreeSet<&'a str>, bool), NoMemory>
     requires sorted { HasSortedNames site.now.inputs }
@@ -74,7 +74,7 @@ fn push_missing_inputs(
 fn push_input_faults(
     alloc: Global,
     faults: &mut Vec<Fault>,
-    site: &Site<'_>,
+    site: &Site<'_, '_, '_>,
     names: &BTreeSet<&str>,
 ) -> Result<bool, NoMemory>
     ensures faults { OnOk result (faults.new.items ≡ faults.old.items
@@ -94,7 +94,7 @@ fn push_input_faults(
 fn push_task_array_faults(
     alloc: Global,
     faults: &mut Vec<Fault>,
-    site: &Site<'_>,
+    site: &Site<'_, '_, '_>,
     node: &Node,
     task: &Task,
     min_successes: Option<u32>,
@@ -121,7 +121,7 @@ fn push_task_array_faults(
 fn push_array_faults<'a>(
     alloc: Global,
     faults: &mut Vec<Fault>,
-    site: &Site<'a>,
+    site: &Site<'_, '_, 'a>,
     node: &'a Node,
     are_bound: bool,
 ) -> Result<(), NoMemory>
@@ -155,7 +155,7 @@ fn push_array_faults<'a>(
 fn push_node_bindings<'a>(
     alloc: Global,
     faults: &mut Vec<Fault>,
-    site: &Site<'a>,
+    site: &Site<'_, '_, 'a>,
     node: &'a Node,
 ) -> Result<(), NoMemory>
     requires form { IsBundleInForm site.now.sources.now.bundle }
@@ -177,7 +177,7 @@ fn push_node_bindings<'a>(
 fn push_node_checks(
     alloc: Global,
     faults: &mut Vec<Fault>,
-    site: &Site<'_>,
+    site: &Site<'_, '_, '_>,
     index: usize,
     node: &Node,
 ) -> Result<(), NoMemory>
@@ -200,7 +200,7 @@ fn push_node_checks(
 pub(crate) fn push_faults_of_node<'a>(
     alloc: Global,
     faults: &mut Vec<Fault>,
-    sources: &'a Sources<'a>,
+    sources: &Sources<'_, 'a>,
     index: usize,
     node: &'a Node,
 ) -> Result<(), NoMemory>

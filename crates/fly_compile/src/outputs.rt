@@ -8,11 +8,11 @@ ghost use Rattle.fly_docs.specs.NodeInterfaces as interfaces;
 ghost use Rattle.fly_docs.specs.declared.node.Target.TheOpen.{Target-F};
 ghost use Rattle.std.specs.Ordering.{nat_cmp};
 ghost use Rattle.std.specs.Cmp.Lexicographic.{slice_cmp};
-ghost use Rattle.fly_compile.specs.OutputTypes.{type_of_output, source_of_origin};
+ghost use Rattle.fly_faults.specs.OutputTypes.{type_of_output, source_of_origin};
 ghost use Rattle.fly_compile.specs.Outputs.{output_variable, item_variable, outputs_value, known_variables, AreOutputsSorted, source_found, common_of};
 
-use crate::output_type::{Origin, OutputType};
 use fly_docs::{Case, Identifier, Node, Target};
+use fly_faults::{Origin, OutputType};
 use fly_links::Directory;
 use fly_types::{Boxed, List, NoMemory, Text, Variable, find_variable};
 use std::alloc::Global;

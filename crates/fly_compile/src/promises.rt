@@ -4,9 +4,9 @@ ghost use Rattle.fly_docs.specs.Bindings as bindings;
 ghost use Rattle.fly_compile.specs.Scopes.{source_there};
 ghost use Rattle.fly_compile.specs.Promises.{known, with_sources};
 
-use crate::output_type::Origin;
 use crate::sources::Sources;
 use fly_docs::{Bound, START_NODE};
+use fly_faults::Origin;
 use fly_types::{NoMemory, Text};
 use std::alloc::Global;
 
@@ -33,7 +33,7 @@ pub(crate) fn source_node(node: &Text) -> &str
 /// The promises in what is bound, in their order.
 pub(crate) fn promises_of<'a>(
     alloc: Global,
-    sources: &Sources<'a>,
+    sources: &Sources<'_, 'a>,
     x: &'a Bound,
 ) -> Result<Vec<Promise<'a>>, NoMemory>
     ensures { IfOk result (λ promises. map known promises.items ≡ with_sources (source_there sources.now) (bindings.promises_of x.now)) }
@@ -46,7 +46,7 @@ pub(crate) fn promises_of<'a>(
 #[cycle(push_promises)]
 fn push_promises<'a>(
     promises: &mut Vec<Promise<'a>>,
-    sources: &Sources<'a>,
+    sources: &Sources<'_, 'a>,
     x: &'a Bound,
 ) -> Result<(), NoMemory>
     ensures { OnOk result (map known promises.new.items
@@ -62,7 +62,7 @@ fn push_promises<'a>(
 
 fn push_promise<'a>(
     promises: &mut Vec<Promise<'a>>,
-    sources: &Sources<'a>,
+    sources: &Sources<'_, 'a>,
     node: &'a Text,
     var: &'a Text,
 ) -> Result<(), NoMemory>
@@ -81,7 +81,7 @@ fn push_promise<'a>(
 #[cycle(push_promises)]
 fn push_elements<'a>(
     promises: &mut Vec<Promise<'a>>,
-    sources: &Sources<'a>,
+    sources: &Sources<'_, 'a>,
     elements: &'a [Bound],
 ) -> Result<(), NoMemory>
     ensures { OnOk result (map known promises.new.items
@@ -96,7 +96,7 @@ fn push_elements<'a>(
 #[cycle(push_promises)]
 fn push_entries<'a>(
     promises: &mut Vec<Promise<'a>>,
-    sources: &Sources<'a>,
+    sources: &Sources<'_, 'a>,
     entries: &'a [(Text, Bound)],
 ) -> Result<(), NoMemory>
     ensures { OnOk result (map known promises.new.items

@@ -1,11 +1,11 @@
 //! Where bindings stand, and what may be bound there.
 ghost use Rattle.std.specs.Prelude.{◌≡◌, IfOk, option_map, option_and_then, is_none};
 ghost use Rattle.fly_types.specs.Lookup.{AreVariablesSorted};
-ghost use Rattle.fly_compile.specs.BindingFaults as faults;
+ghost use Rattle.fly_faults.specs.BindingFaults as faults;
 ghost use Rattle.fly_compile.specs.Sites.{wanted_value, wanted_by_name, HasSortedNames, input_variables};
 
 use crate::sources::Sources;
-use crate::type_text::text_of_type;
+use fly_faults::text_of_type;
 use fly_types::{List, LiteralType, NoMemory, Text, Variable, find_variable};
 use std::alloc::Global;
 
@@ -32,10 +32,10 @@ pub(crate) enum Wanted<'a> {
 
 /// Where bindings stand.
 #[derive(Drop)]
-pub(crate) struct Site<'a> {
+pub(crate) struct Site<'s, 'd, 'a> {
     /// The place of the node or of the outputs.
     pub place: Text,
-    pub sources: &'a Sources<'a>,
+    pub sources: &'s Sources<'d, 'a>,
     pub inputs: Inputs<'a>,
 }
 

@@ -6,13 +6,14 @@ ghost use Rattle.fly_docs.specs.Names.{start_node};
 ghost use Rattle.fly_docs.specs.Bindings.{source_node};
 ghost use Rattle.fly_docs.specs.Form.{IsBundleInForm};
 ghost use Rattle.fly_docs.specs.NodeInterfaces.{source_in};
-ghost use Rattle.fly_compile.specs.OutputTypes.{source_of_origin};
+ghost use Rattle.fly_compile.specs.Outputs.{AreOutputsOf};
+ghost use Rattle.fly_faults.specs.OutputTypes.{source_of_origin};
 ghost use Rattle.fly_compile.specs.Scopes as scopes;
 ghost use Rattle.fly_compile.specs.Scopes.{source_there};
 
-use crate::output_type::{Origin, OutputType};
 use crate::outputs::{Outputs, outputs_of};
-use fly_docs::START_NODE;
+use fly_docs::{START_NODE, Workflow};
+use fly_faults::{Origin, OutputType};
 use fly_links::{Directory, Layout};
 use fly_types::{List, NoMemory, Text, Variable, find_variable};
 use std::alloc::Global;
@@ -21,13 +22,13 @@ use std::marker::Model;
 /// What the promises in a workflow are of. The outputs of each node are found once. A look-up takes no memory. Contracts
 /// see the workflow and its bundle.
 #[derive(Drop)]
-pub(crate) struct Sources<'a> {
-    directory: &'a Directory<'a>,
-    layout: &'a Layout<'a>,
+pub(crate) struct Sources<'d, 'a> {
+    directory: &'d Directory<'a>,
+    layout: Layout<'a>,
     outputs: Vec<Outputs<'a>>,
 }
 
-impl<'a> Model for Sources<'a> {
+impl<'d, 'a> Model for Sources<'d, 'a> {
     ghost use Rattle.std.specs.Coded.{codes};
     ghost use Rattle.fly_types.specs.contracts.kinds.LiteralType as types;
     ghost use Rattle.fly_types.specs.contracts.literals.Literal as literals;
@@ -42,27 +43,24 @@ impl<'a> Model for Sources<'a> {
 
     ghost coded = { Prim.hlevel (codes, types.the_row.coded, literals.the_row.coded, trees.the_row.coded, exprs.the_row.coded, bounds.the_row.coded, steps.the_row.coded) };
 
-    ghost view = { λ s. record { bundle = s.directory.now; workflow = s.layout.now } };
+    ghost view = { λ s. record { bundle = s.directory.now; workflow = s.layout } };
 
-    ghost invariant = { λ s. AreOutputsOf s.directory.now s.layout.now s.outputs.items };
+    ghost invariant = { λ s. AreOutputsOf s.directory.now s.layout s.outputs.items };
 }
 
-impl<'a> Sources<'a> {
+impl<'d, 'a> Sources<'d, 'a> {
     /// What the promises in the workflow are of.
     pub(crate) fn of(
         alloc: Global,
-        directory: &'a Directory<'a>,
-        layout: &'a Layout<'a>,
-    ) -> Result<Sources<'a>, NoMemory>
+        directory: &'d Directory<'a>,
+        workflow: &'a Workflow,
+    ) -> Result<Sources<'d, 'a>, NoMemory>
         requires form { IsBundleInForm directory.now }
-        requires inputs { AreVariablesSorted layout.now.interface.inputs }
-        ensures { IfOk result (λ s. s ≡ scopes.scope_of directory.now layout.now) }
+        requires inputs { AreVariablesSorted workflow.now.interface.inputs }
+        ensures { IfOk result (λ s. s ≡ scopes.scope_of directory.now workflow.now) }
     {
-        let nodes = layout.nodes();
-        let mut outputs = Vec::with_capacity(alloc, nodes.len())?;
-        for node in nodes {
-            outputs.push(outputs_of(alloc, directory, node)?)?;
-        }
+        let layout = Layout::of(alloc, workflow)?;
+        let outputs = outputs_of_nodes(alloc, directory, &layout)?;
         Ok(Sources {
             directory,
             layout,
@@ -70,16 +68,16 @@ impl<'a> Sources<'a> {
         })
     }
 
-    pub(crate) fn directory(&self) -> &'a Directory<'a>
+    pub(crate) fn directory(&self) -> &'d Directory<'a>
         ensures { result.now ≡ self.now.bundle }
     {
         self.directory
     }
 
-    pub(crate) fn layout(&self) -> &'a Layout<'a>
+    pub(crate) fn layout(&self) -> &Layout<'a>
         ensures { result.now ≡ self.now.workflow }
     {
-        self.layout
+        &self.layout
     }
 
     /// What a promise is of.
@@ -94,6 +92,24 @@ impl<'a> Sources<'a> {
             None => Origin::NoNode,
         }
     }
+}
+
+/// The outputs of the nodes, by their places.
+fn outputs_of_nodes<'a>(
+    alloc: Global,
+    directory: &Directory<'a>,
+    layout: &Layout<'a>,
+) -> Result<Vec<Outputs<'a>>, NoMemory>
+    requires form { IsBundleInForm directory.now }
+    requires inputs { AreVariablesSorted layout.now.interface.inputs }
+    ensures { IfOk result (λ outputs. AreOutputsOf directory.now layout.now outputs.items) }
+{
+    let nodes = layout.nodes();
+    let mut outputs = Vec::with_capacity(alloc, nodes.len())?;
+    for node in nodes {
+        outputs.push(outputs_of(alloc, directory, node)?)?;
+    }
+    Ok(outputs)
 }
 
 /// Whether the id names the start.

@@ -1,10 +1,10 @@
 use Rattle.std.specs.Prelude.{nat_lt}
 use Rattle.fly_types.specs.declared.variable.Variable.{Variable}
 use Rattle.fly_types.specs.Levels.{max_levels, type_levels}
-use Rattle.fly_compile.specs.declared.fault.Code.TheVariants as code
-use Rattle.fly_compile.specs.OutputTypes.{list_of_items}
-use Rattle.fly_compile.specs.Places.{fault_at, variable_place}
-use Rattle.fly_compile.proofs.Loops.{filtered_more}
+use Rattle.fly_faults.specs.declared.fault.Code.TheVariants as code
+use Rattle.fly_faults.specs.OutputTypes.{list_of_items}
+use Rattle.fly_faults.specs.Places.{fault_at, variable_place}
+use Rattle.fly_faults.proofs.Loops.{filtered_more}
 use Rattle.fly_compile.proofs.array_faults.push_depth_faults.Goals as goal
 
 pub loop-variable-preserved : goal.loop-variable-preserved

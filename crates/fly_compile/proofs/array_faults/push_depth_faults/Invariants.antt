@@ -2,9 +2,9 @@ use Rattle.std.proofs.Common.{◌≡◌, ◌++◌, map, take, filter}
 use Rattle.std.specs.Prelude.{nat_lt}
 use Rattle.fly_types.specs.declared.variable.Variable.{Variable}
 use Rattle.fly_types.specs.Levels.{max_levels, type_levels}
-use Rattle.fly_compile.specs.declared.fault.Code.TheVariants as code
-use Rattle.fly_compile.specs.OutputTypes.{list_of_items}
-use Rattle.fly_compile.specs.Places.{fault_at, variable_place}
+use Rattle.fly_faults.specs.declared.fault.Code.TheVariants as code
+use Rattle.fly_faults.specs.OutputTypes.{list_of_items}
+use Rattle.fly_faults.specs.Places.{fault_at, variable_place}
 use Rattle.fly_compile.proofs.array_faults.push_depth_faults.Given as goal
 
 abbrev pub invariant-loop-variable : goal.invariant-loop-variable

@@ -1,7 +1,7 @@
 use Rattle.std.proofs.Common.{true, false, refl, sym, ◌∙◌, ◌++◌, ap, append-nil}
 use Rattle.fly_compile.specs.Sites.{site_of}
 use Rattle.fly_compile.proofs.ArrayLemmas.{unmapped-by}
-use Rattle.fly_compile.proofs.Loops.{on_ok}
+use Rattle.fly_faults.proofs.Loops.{on_ok}
 use Rattle.fly_compile.proofs.array_faults.push_unmapped_faults.Goals as goal
 
 pub returns-then-not-are_bound : goal.returns-then-not-are_bound

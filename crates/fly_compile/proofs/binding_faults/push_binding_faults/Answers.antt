@@ -1,8 +1,8 @@
 use Rattle.std.proofs.Common.{[], ◌∷◌, ◌++◌, ◌∙◌, ap, cond}
-use Rattle.fly_compile.specs.declared.fault.Code.TheVariants as code
-use Rattle.fly_compile.specs.Places.{fault_at}
+use Rattle.fly_faults.specs.declared.fault.Code.TheVariants as code
+use Rattle.fly_faults.specs.Places.{fault_at}
 use Rattle.fly_compile.specs.Sites.{site_of}
-use Rattle.fly_compile.proofs.Loops.{on_ok, five}
+use Rattle.fly_faults.proofs.Loops.{on_ok, five}
 use Rattle.fly_compile.proofs.ValueFaults.{node-faults-by, variable-faults-by}
 use Rattle.fly_compile.proofs.binding_faults.push_binding_faults.Goals as goal
 

@@ -1,8 +1,8 @@
 use Rattle.std.proofs.Common.{ℕ, ◌∙◌, ◌++◌, take, ap}
 use Rattle.fly_docs.specs.declared.binding.Binding.{Binding}
-use Rattle.fly_compile.specs.BindingFaults.{binding_faults, wanted_faults, node_faults, variable_faults, value_faults, wanted_for}
+use Rattle.fly_faults.specs.BindingFaults.{binding_faults, wanted_faults, node_faults, variable_faults, value_faults, wanted_for}
 use Rattle.fly_compile.specs.Sites.{site_of}
-use Rattle.fly_compile.proofs.Loops.{numbered_more}
+use Rattle.fly_faults.proofs.Loops.{numbered_more}
 use Rattle.fly_compile.proofs.NameTables.{names_more, twice-by}
 use Rattle.fly_compile.proofs.binding_faults.push_bindings_faults.Goals as goal
 

@@ -1,7 +1,7 @@
 use Rattle.std.proofs.Common.{◌≡◌, ℕ, ◌++◌, take}
 use Rattle.std.specs.List.{flat_map, enumerate_from}
 use Rattle.fly_docs.specs.declared.binding.Binding.{Binding}
-use Rattle.fly_compile.specs.BindingFaults.{binding_faults}
+use Rattle.fly_faults.specs.BindingFaults.{binding_faults}
 use Rattle.fly_compile.specs.BoundNames.{HasNames}
 use Rattle.fly_compile.specs.Sites.{site_of}
 use Rattle.fly_compile.proofs.binding_faults.push_bindings_faults.Given as goal

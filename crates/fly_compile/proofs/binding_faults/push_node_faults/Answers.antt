@@ -1,8 +1,8 @@
-use Rattle.fly_compile.specs.declared.fault.Code.TheVariants as code
-use Rattle.fly_compile.specs.BindingFaults.{is_no_node}
-use Rattle.fly_compile.specs.Places.{fault_with}
+use Rattle.fly_faults.specs.declared.fault.Code.TheVariants as code
+use Rattle.fly_faults.specs.BindingFaults.{is_no_node}
+use Rattle.fly_faults.specs.Places.{fault_with}
 use Rattle.fly_compile.specs.Promises.{known}
-use Rattle.fly_compile.proofs.Loops.{filtered_more}
+use Rattle.fly_faults.proofs.Loops.{filtered_more}
 use Rattle.fly_compile.proofs.binding_faults.push_node_faults.Goals as goal
 
 pub loop-promise-preserved : goal.loop-promise-preserved

@@ -1,8 +1,8 @@
 use Rattle.std.specs.Prelude.{not}
 use Rattle.fly_types.specs.declared.variable.Variable.{Variable}
-use Rattle.fly_compile.specs.Places.{fault_at, variable_place}
+use Rattle.fly_faults.specs.Places.{fault_at, variable_place}
 use Rattle.fly_compile.specs.BoundNames.{has_name}
-use Rattle.fly_compile.proofs.Loops.{filtered_more, else_first}
+use Rattle.fly_faults.proofs.Loops.{filtered_more, else_first}
 use Rattle.fly_compile.proofs.binding_faults.push_unbound_faults.Goals as goal
 
 pub loop-variable-preserved : goal.loop-variable-preserved

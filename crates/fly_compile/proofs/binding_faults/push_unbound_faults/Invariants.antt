@@ -1,7 +1,7 @@
 use Rattle.std.proofs.Common.{◌≡◌, ◌++◌, map, take, filter}
 use Rattle.std.specs.Prelude.{not}
 use Rattle.fly_types.specs.declared.variable.Variable.{Variable}
-use Rattle.fly_compile.specs.Places.{fault_at, variable_place}
+use Rattle.fly_faults.specs.Places.{fault_at, variable_place}
 use Rattle.fly_compile.specs.BoundNames.{has_name}
 use Rattle.fly_compile.proofs.binding_faults.push_unbound_faults.Given as goal
 

@@ -1,5 +1,5 @@
 use Rattle.std.proofs.Common.{[], ◌∷◌, ◌++◌, sym, ◌∙◌, ap, append-nil, false}
-use Rattle.fly_compile.specs.BindingFaults.{is_no_node, is_no_variable}
+use Rattle.fly_faults.specs.BindingFaults.{is_no_node, is_no_variable}
 use Rattle.fly_compile.specs.Sites.{site_of, wanted_value}
 use Rattle.fly_compile.proofs.ValueFaults.{has-test, value-by, lacks-node, lacks-variable}
 use Rattle.fly_compile.proofs.binding_faults.push_value_faults.Goals as goal

@@ -1,7 +1,7 @@
 use Rattle.std.proofs.Common.{◌≡◌, ◌++◌, map, take, filter, codes}
-use Rattle.fly_compile.specs.declared.fault.Code.TheVariants as code
-use Rattle.fly_compile.specs.BindingFaults.{is_no_variable}
-use Rattle.fly_compile.specs.Places.{fault_with}
+use Rattle.fly_faults.specs.declared.fault.Code.TheVariants as code
+use Rattle.fly_faults.specs.BindingFaults.{is_no_variable}
+use Rattle.fly_faults.specs.Places.{fault_with}
 use Rattle.fly_compile.specs.Promises.{known}
 use Rattle.fly_compile.proofs.binding_faults.push_variable_faults.Given as goal
 

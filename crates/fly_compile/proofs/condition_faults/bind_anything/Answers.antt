@@ -2,10 +2,10 @@ use Rattle.std.proofs.Common.{sym, ◌∙◌, ap}
 use Rattle.std.specs.List.{list_any}
 use Rattle.fly_docs.specs.declared.binding.Binding.{Binding}
 use Rattle.fly_docs.specs.Bindings.{promises_of}
-use Rattle.fly_compile.specs.BindingFaults.{is_anything}
+use Rattle.fly_faults.specs.BindingFaults.{is_anything}
 use Rattle.fly_compile.specs.Promises.{known}
 use Rattle.fly_compile.specs.Scopes.{source_there}
-use Rattle.fly_compile.proofs.Loops.{any_at, none_more, any-through}
+use Rattle.fly_faults.proofs.Loops.{any_at, none_more, any-through}
 use Rattle.fly_compile.proofs.condition_faults.bind_anything.Goals as goal
 
 pub returns-then-has_anything : goal.returns-then-has_anything

@@ -2,7 +2,7 @@ use Rattle.std.proofs.Common.{◌≡◌, false, take}
 use Rattle.std.specs.List.{list_any}
 use Rattle.fly_docs.specs.declared.binding.Binding.{Binding}
 use Rattle.fly_docs.specs.Bindings.{promises_of}
-use Rattle.fly_compile.specs.BindingFaults.{is_anything}
+use Rattle.fly_faults.specs.BindingFaults.{is_anything}
 use Rattle.fly_compile.specs.Scopes.{source_there}
 use Rattle.fly_compile.proofs.condition_faults.bind_anything.Given as goal
 

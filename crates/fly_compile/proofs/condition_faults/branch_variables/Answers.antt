@@ -2,7 +2,7 @@ use Rattle.std.specs.Option.{option_map}
 use Rattle.fly_docs.specs.declared.binding.Binding.{Binding}
 use Rattle.fly_docs.specs.Conditions.{bound_primitive}
 use Rattle.fly_compile.specs.Scopes.{source_there}
-use Rattle.fly_compile.proofs.Loops.{chosen_more}
+use Rattle.fly_faults.proofs.Loops.{chosen_more}
 use Rattle.fly_compile.proofs.condition_faults.branch_variables.Goals as goal
 
 pub loop-x-preserved : goal.loop-x-preserved

@@ -3,10 +3,10 @@ use Rattle.std.specs.Prelude.{decimal}
 use Rattle.std.specs.Option.{option_to_list}
 use Rattle.fly_docs.specs.declared.node.Case.{Case}
 use Rattle.fly_docs.specs.Conditions.{condition_fault}
-use Rattle.fly_compile.specs.declared.fault.Code.TheVariants as code
-use Rattle.fly_compile.specs.NodeFaults.{kind_text}
-use Rattle.fly_compile.specs.Places.{fault_with}
-use Rattle.fly_compile.proofs.Loops.{numbered_more}
+use Rattle.fly_faults.specs.declared.fault.Code.TheVariants as code
+use Rattle.fly_faults.specs.NodeFaults.{kind_text}
+use Rattle.fly_faults.specs.Places.{fault_with}
+use Rattle.fly_faults.proofs.Loops.{numbered_more}
 use Rattle.fly_compile.proofs.condition_faults.push_case_faults.Goals as goal
 
 pub loop-number-preserved : goal.loop-number-preserved

@@ -4,11 +4,11 @@ use Rattle.std.specs.List.{flat_map, enumerate_from}
 use Rattle.std.specs.Option.{option_to_list}
 use Rattle.fly_docs.specs.declared.node.Case.{Case}
 use Rattle.fly_docs.specs.Conditions.{branch_variables, condition_fault}
-use Rattle.fly_compile.specs.declared.fault.Code.TheVariants as code
-use Rattle.fly_compile.specs.NodeFaults.{kind_text}
-use Rattle.fly_compile.specs.Places.{fault_with}
+use Rattle.fly_faults.specs.declared.fault.Code.TheVariants as code
+use Rattle.fly_faults.specs.NodeFaults.{kind_text}
+use Rattle.fly_faults.specs.Places.{fault_with}
 use Rattle.fly_compile.specs.Scopes.{source_there}
-use Rattle.fly_compile.proofs.Loops.{on_ok}
+use Rattle.fly_faults.proofs.Loops.{on_ok}
 use Rattle.fly_compile.proofs.condition_faults.push_condition_faults.Goals as goal
 
 pub returns : goal.returns

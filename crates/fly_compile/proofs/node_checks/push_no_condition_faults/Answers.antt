@@ -1,8 +1,8 @@
 use Rattle.std.specs.Prelude.{is_none}
 use Rattle.fly_docs.specs.declared.node.Case.{Case}
-use Rattle.fly_compile.specs.declared.fault.Code.TheVariants as code
-use Rattle.fly_compile.specs.Places.{fault_at}
-use Rattle.fly_compile.proofs.Loops.{filtered_more}
+use Rattle.fly_faults.specs.declared.fault.Code.TheVariants as code
+use Rattle.fly_faults.specs.Places.{fault_at}
+use Rattle.fly_faults.proofs.Loops.{filtered_more}
 use Rattle.fly_compile.proofs.node_checks.push_no_condition_faults.Goals as goal
 
 pub loop-case-preserved : goal.loop-case-preserved

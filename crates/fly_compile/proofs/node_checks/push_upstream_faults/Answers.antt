@@ -1,8 +1,8 @@
 use Rattle.std.specs.Prelude.{not}
-use Rattle.fly_compile.specs.declared.fault.Code.TheVariants as code
-use Rattle.fly_compile.specs.NodeFaults.{is_node_or_start}
-use Rattle.fly_compile.specs.Places.{fault_with}
-use Rattle.fly_compile.proofs.Loops.{filtered_more, else_first}
+use Rattle.fly_faults.specs.declared.fault.Code.TheVariants as code
+use Rattle.fly_faults.specs.NodeFaults.{is_node_or_start}
+use Rattle.fly_faults.specs.Places.{fault_with}
+use Rattle.fly_faults.proofs.Loops.{filtered_more, else_first}
 use Rattle.fly_compile.proofs.node_checks.push_upstream_faults.Goals as goal
 
 pub loop-id-preserved : goal.loop-id-preserved

@@ -3,13 +3,13 @@ use Rattle.std.specs.List.{flat_map}
 use Rattle.std.specs.Option.{option_to_list}
 use Rattle.fly_docs.specs.declared.node.Target.{out-Target}
 use Rattle.fly_docs.specs.NodeInterfaces.{inputs_by, inputs_of}
-use Rattle.fly_compile.specs.declared.fault.Code.TheVariants as code
+use Rattle.fly_faults.specs.declared.fault.Code.TheVariants as code
 use Rattle.fly_compile.specs.declared.site.Site as kept
-use Rattle.fly_compile.specs.BindingFaults.{bindings_faults, unbound_faults}
-use Rattle.fly_compile.specs.NodeFaults.{node_site, id_faults, target_faults, upstream_faults, no_condition_faults, input_faults, array_faults_in, condition_faults}
-use Rattle.fly_compile.specs.Places.{node_place}
+use Rattle.fly_faults.specs.BindingFaults.{bindings_faults, unbound_faults}
+use Rattle.fly_faults.specs.NodeFaults.{node_site, id_faults, target_faults, upstream_faults, no_condition_faults, input_faults, array_faults_in, condition_faults}
+use Rattle.fly_faults.specs.Places.{node_place}
 use Rattle.fly_compile.specs.Sites.{IsSiteOf, site_of, input_variables, wanted_for_target}
-use Rattle.fly_compile.proofs.Loops.{on_ok, four_behind}
+use Rattle.fly_faults.proofs.Loops.{on_ok, four_behind}
 use Rattle.fly_compile.proofs.NodeSites.{site-same}
 use Rattle.fly_compile.proofs.node_faults.push_faults_of_node.Goals as goal
 

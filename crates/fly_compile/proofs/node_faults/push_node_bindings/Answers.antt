@@ -4,12 +4,12 @@ use Rattle.std.specs.List.{list_all, flat_map}
 use Rattle.std.specs.Option.{option_to_list}
 use Rattle.fly_types.specs.declared.variable.Variable.{Variable}
 use Rattle.fly_docs.specs.Bindings.{binding_of}
-use Rattle.fly_compile.specs.declared.fault.Code.TheVariants as code
-use Rattle.fly_compile.specs.BindingFaults.{bindings_faults, unbound_faults}
+use Rattle.fly_faults.specs.declared.fault.Code.TheVariants as code
+use Rattle.fly_faults.specs.BindingFaults.{bindings_faults, unbound_faults}
 use Rattle.fly_compile.specs.Branches.{condition_faults_of}
-use Rattle.fly_compile.specs.Places.{fault_at, variable_place}
+use Rattle.fly_faults.specs.Places.{fault_at, variable_place}
 use Rattle.fly_compile.specs.Sites.{site_of, input_variables}
-use Rattle.fly_compile.proofs.Loops.{on_ok, four}
+use Rattle.fly_faults.proofs.Loops.{on_ok, four}
 use Rattle.fly_compile.proofs.NodeSites.{unbound-known, bound-by}
 use Rattle.fly_compile.proofs.node_faults.push_node_bindings.Goals as goal
 

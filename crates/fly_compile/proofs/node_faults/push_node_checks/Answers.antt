@@ -1,10 +1,10 @@
 use Rattle.std.proofs.Common.{◌++◌, ◌∙◌, ap, map, filter}
 use Rattle.std.specs.Prelude.{not, is_none}
 use Rattle.fly_docs.specs.declared.node.Case.{Case}
-use Rattle.fly_compile.specs.declared.fault.Code.TheVariants as code
-use Rattle.fly_compile.specs.NodeFaults.{id_faults, is_node_or_start}
-use Rattle.fly_compile.specs.Places.{fault_at, fault_with}
-use Rattle.fly_compile.proofs.Loops.{on_ok, four}
+use Rattle.fly_faults.specs.declared.fault.Code.TheVariants as code
+use Rattle.fly_faults.specs.NodeFaults.{id_faults, is_node_or_start}
+use Rattle.fly_faults.specs.Places.{fault_at, fault_with}
+use Rattle.fly_faults.proofs.Loops.{on_ok, four}
 use Rattle.fly_compile.proofs.node_faults.push_node_checks.Goals as goal
 
 pub returns : goal.returns

@@ -5,7 +5,7 @@ use Rattle.fly_docs.specs.declared.node.Target.{out-Target}
 use Rattle.fly_docs.specs.declared.node.Target.TheViews as view
 use Rattle.fly_docs.specs.NodeInterfaces.{outputs_of}
 use Rattle.fly_compile.specs.Outputs.{outputs_value, common_of}
-use Rattle.fly_compile.proofs.Loops.{if_ok}
+use Rattle.fly_faults.proofs.Loops.{if_ok}
 use Rattle.fly_compile.proofs.OutputLemmas.{branch_outputs_at}
 use Rattle.fly_compile.proofs.outputs.+outputs.Goals as goal
 

@@ -3,7 +3,7 @@ use Rattle.std.specs.Cmp.Lexicographic.{slice_cmp}
 use Rattle.std.proofs.lemmas.Fn.{always_returns_same}
 use Rattle.fly_types.proofs.LookupLemmas.{found, absent}
 use Rattle.fly_docs.specs.NodeInterfaces.{of_type}
-use Rattle.fly_compile.specs.OutputTypes.{type_of_output}
+use Rattle.fly_faults.specs.OutputTypes.{type_of_output}
 use Rattle.fly_compile.specs.declared.outputs.Output.{Output}
 use Rattle.fly_compile.proofs.OutputLemmas.{outputs_sorted, output-found, source_in-some, source_in-none}
 use Rattle.fly_compile.proofs.outputs.find_output.Goals as goal

@@ -3,7 +3,7 @@ use Rattle.fly_docs.specs.Bindings.{promises_of}
 use Rattle.fly_compile.specs.Scopes.{source_there}
 use Rattle.fly_compile.specs.Promises.{known, with_sources}
 use Rattle.fly_compile.proofs.PromiseLists.{promises-collection, promises-map}
-use Rattle.fly_compile.proofs.Loops.{pushed_more, on_ok}
+use Rattle.fly_faults.proofs.Loops.{pushed_more, on_ok}
 use Rattle.fly_compile.proofs.promises.+push_promises.Goals as goal
 
 pub push_elements-loop-element-preserved : goal.push_elements-loop-element-preserved

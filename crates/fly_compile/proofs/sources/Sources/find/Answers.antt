@@ -12,6 +12,6 @@ returns-in-Some c =
 
 pub returns-in-None : goal.returns-in-None
 returns-in-None c =
-    nowhere-source c.self.inside.directory.now c.self.inside.layout.now c.args.node.now c.args.var.now
+    nowhere-source c.self.inside.directory.now c.self.inside.layout c.args.node.now c.args.var.now
     (sym c.is_start.ensures ∙ c.if-is_start.false) (sym c.in-None.ensures)
     ∙ ap (λ (s : Scope). source_there s (source_node c.args.node.now, c.args.var.now)) c.self.view_is

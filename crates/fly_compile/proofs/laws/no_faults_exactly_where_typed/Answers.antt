@@ -1,5 +1,0 @@
-use Rattle.fly_compile.proofs.FaultListLaw.{no_faults_exactly_where_typed}
-use Rattle.fly_compile.proofs.laws.no_faults_exactly_where_typed.Goals as goal
-
-pub returns : goal.returns
-returns c = no_faults_exactly_where_typed

@@ -1,8 +1,0 @@
-use Rattle.fly_compile.specs.TypeText.{quoted}
-use Rattle.fly_compile.proofs.Loops.{listed_more}
-use Rattle.fly_compile.proofs.type_text.push_values.Goals as goal
-
-pub loop-place-preserved : goal.loop-place-preserved
-loop-place-preserved c =
-    listed_more quoted _ _ c.index-values-place.result _ _ _ _ c.loop-place-test.true c.index-values-place.is c.loop-place.invariant
-    c.in_ok-push_separator.ensures c.in_ok-push_quoted.ensures

@@ -1,6 +1,0 @@
-use Rattle.std.proofs.Common.{◌≡◌, ◌++◌, take, string_bytes}
-use Rattle.fly_compile.specs.TypeText.{quoted, listed}
-use Rattle.fly_compile.proofs.type_text.push_values.Given as goal
-
-abbrev pub invariant-loop-place : goal.invariant-loop-place
-invariant-loop-place l = string_bytes l.out ≡ string_bytes l.initial.out ++ listed quoted (take l.place l.values)
