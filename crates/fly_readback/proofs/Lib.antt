@@ -1,0 +1,12 @@
+mod ClearLiterals
+mod ClearTrees
+mod ClearTypes
+mod Dates
+mod Faultless
+mod LiteralLaws
+mod Messages
+mod Plain
+mod ReadLiterals
+mod ReadTrees
+mod ReadTypes
+mod Texts
