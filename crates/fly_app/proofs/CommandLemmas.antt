@@ -1,23 +1,29 @@
 -- How commands end.
-use Rattle.std.proofs.Common.{◌≡◌, ◌≢◌, ◌⊎◌, ℕ, List, Option, Some, None, Result, Ok, Err, IfOk, MatchResult, String, Global, string_bytes, subst, refl, sym, ◌∙◌, inl, inr, arith}
+use Rattle.std.proofs.Common.{◌≡◌, ◌≢◌, ◌⊎◌, ℕ, List, [], Option, Some, None, Result, Ok, Err, IfOk, MatchResult, String, Global, string_bytes, subst, refl, sym, ap, ◌∙◌, inl, inr, arith}
 use Rattle.fly_types.specs.declared.memory.NoMemory.{NoMemory}
 use Rattle.fly_ports.specs.Faults.{Rises}
 use Rattle.fly_ports.specs.Files.{Contents, FilesState, Lacks, FailsToRead}
 use Rattle.fly_ports.specs.Sink.{SinkState, Writes, FailsToWrite, Tries}
 use Rattle.fly_docs.specs.declared.workflow.Bundle.{Bundle}
-use Rattle.fly_app.specs.declared.faults.DocKind.{DocKind}
-use Rattle.fly_app.specs.declared.faults.DocKind.TheVariants as kinds
-use Rattle.fly_app.specs.Documents.{bundle_json}
-use Rattle.fly_app.specs.Reading.{Reads, FirstFault}
+use Rattle.serde_json.specs.Data.{Data}
+use Rattle.fly_schema.specs.declared.fault.DocKind.{DocKind}
+use Rattle.fly_schema.specs.declared.fault.DocKind.TheVariants as kinds
+use Rattle.fly_schema.specs.declared.fault.DocFault.{DocFault}
+use Rattle.fly_schema.specs.Reports.{first_report}
+use Rattle.fly_values.specs.Documents.{bundle_value}
+use Rattle.fly_idl.specs.Rows.{message_table}
+use Rattle.fly_idl.specs.Reading.{IsJson, ReadsBundle, IsFirstFault, too_large, not_json, broken, no_memory}
+use Rattle.fly_idl.specs.Rows.{bundle_form}
+use Rattle.fly_faults.specs.FaultList.{faults_of}
 use Rattle.fly_app.specs.declared.status.Status.{Status}
 use Rattle.fly_app.specs.declared.status.Status.TheVariants as statuses
-use Rattle.fly_app.specs.Words.{Request, compile, help, version, IsRequest}
-use Rattle.fly_app.specs.Outside.{outside, Outside, IsContent, IsTold, IsUnread, WritesAll}
+use Rattle.fly_app.specs.Words.{Request, compile, help, version, IsCompile, IsRequest, IsFirstWrong}
+use Rattle.fly_app.specs.Outside.{outside, Outside, IsContent, IsTold, IsUnread, ReadsAll, WritesAll}
 use Rattle.fly_app.specs.Printing.{PrintsText, SaysLine, FailsToSay, no_memory_text}
 use Rattle.fly_app.specs.declared.compiling.Unanswered.{Unanswered}
 use Rattle.fly_app.specs.declared.compiling.Unanswered.TheVariants as unanswered
 use Rattle.fly_app.specs.Compiling.{CompilesFile}
-use Rattle.fly_app.specs.Answers.{HasClosure, Answer, Text, WrongWord, Refusal, Unread, HasText, HasRefusal, Wants, Asks, status_of, SaysOnly, SaysPart, Prints, FailsToPrint, HasDone, IsKnown, IsAbsent, IsDue, EndsWith, RunsCommand}
+use Rattle.fly_app.specs.Answers.{HasClosure, HasDocumentFault, HasBundleFaults, Answer, Text, WrongWord, Refusal, Unread, HasText, HasRefusal, Wants, Asks, status_of, SaysOnly, SaysPart, Prints, FailsToPrint, HasDone, IsKnown, IsAbsent, IsDue, EndsWith, RunsCommand}
 
 -- ---- what a run of a command has done
 
@@ -101,21 +107,37 @@ absent_lacks contents path file absent there =
     let some : absent.0 path ≡ Some file = rw absent.1 at there in
     let both : Some file ≡ None = sym some ∙ absent.2 in cc
 
--- a document with a fault is no bundle's
-not_both : (file : List ℕ) (kind : DocKind) (b : Bundle) → FirstFault file kind → kind ≢ kinds.NoMemory → Reads file b → ⊥
-not_both file kinds.TooLarge b fault known reads = let few = reads.within in absurd (omega (arith, fault, few))
-not_both file kinds.NotJson b fault known reads = fault.1 (bundle_json b) reads.json
-not_both file kinds.NotBuilt b fault known reads = fault.2 b reads
-not_both file kinds.NoMemory b fault known reads = known refl
+-- ---- documents
 
--- a bundle's file is not refused
+-- bytes are the text of one JSON value
+one_json : (bytes : List ℕ) (a b : Data) → IsJson bytes a → IsJson bytes b → a ≡ b
+one_json bytes a b x y = let both : Some a ≡ Some b = sym x.value ∙ y.value in cc both
+
+one_bundle : (bytes : List ℕ) (a b : Bundle) → ReadsBundle bytes a → ReadsBundle bytes b → a ≡ b
+one_bundle bytes a b (d, faultless, is) (e, clean, same) = is ∙ ap bundle_value (one_json bytes d e faultless.json clean.json) ∙ sym same
+
+-- a document with a fault is no bundle's
+not_both : (bytes : List ℕ) (f : DocFault) (b : Bundle) → IsFirstFault bundle_form bytes f → f.kind ≢ kinds.NoMemory → ReadsBundle bytes b → ⊥
+not_both bytes f b (too_large many is) known (d, faultless, same) = let few = faultless.within in absurd (omega (arith, many, few))
+not_both bytes f b (not_json few none is) known (d, faultless, same) = none d faultless.json
+not_both bytes f b (broken few e json is) known (d, faultless, same) =
+    let report = ap (first_report message_table bundle_form) (one_json bytes e d json faultless.json) in
+    let both : Some (f.kind, f.place) ≡ None = sym is ∙ report ∙ faultless.faultless in absurd (cc both)
+not_both bytes f b (no_memory is) known reads = known (ap (λ (r : DocKind × List ℕ). r.0) is)
+
+-- a bundle without a fault is not refused
 text_refused : (contents : Option Contents) (path text lines : List ℕ) → IsTold contents → HasClosure contents path text → HasRefusal contents (compile path) lines → ⊥
-text_refused contents path text lines told has refused =
-    let same = one_content contents path has.file refused.file told has.content refused.content in
-    not_both refused.file refused.kind has.bundle refused.fault refused.known (subst (λ (f : List ℕ). Reads f has.bundle) same has.reads)
+text_refused contents path text lines told has (inl fault) =
+    let same = one_content contents path has.file fault.file told has.content fault.content in
+    not_both fault.file fault.fault has.bundle fault.first fault.known (subst (λ (f : List ℕ). ReadsBundle f has.bundle) same has.reads)
+text_refused contents path text lines told has (inr faults) =
+    let same = one_content contents path has.file faults.file told has.content faults.content in
+    let bundles = one_bundle faults.file has.bundle faults.bundle (subst (λ (f : List ℕ). ReadsBundle f has.bundle) same has.reads) faults.reads in
+    faults.faulty (ap faults_of (sym bundles) ∙ has.faultless)
 
 refusal_content : (contents : Option Contents) (path lines : List ℕ) → HasRefusal contents (compile path) lines → (file : List ℕ) × IsContent contents path file
-refusal_content contents path lines refused = (refused.file, refused.content)
+refusal_content contents path lines (inl fault) = (fault.file, fault.content)
+refusal_content contents path lines (inr faults) = (faults.file, faults.content)
 
 -- of a request that is known, one answer is the right one
 text_only : (r : Request) (old new : FilesState) (text lines : List ℕ) → IsKnown r old new → HasText old.contents r text → HasRefusal old.contents r lines → ⊥

@@ -1,14 +1,3 @@
-mod Closed
-mod OneTask
 mod WordsLemmas
 mod FileReads
-mod Floats
-mod Messages
-mod Candidates
-mod Orders
-mod Sorting
 mod CommandLemmas
-mod RoundTrip
-mod Depths
-mod Documented
-mod SingleTaskTyped

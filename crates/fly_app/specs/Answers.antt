@@ -1,47 +1,60 @@
 -- What commands answer, and what they leave. Every command is a case of three definitions: what it asks for (`IsRequest`), which text it
 -- prints (`HasText`), and why it has none (`HasRefusal`).
-use Rattle.std.specs.Prelude.{◌≡◌, ◌≢◌, ◌⊎◌, ℕ, List, ◌++◌, Option, Some, None, ⊤}
+use Rattle.std.specs.Prelude.{◌≡◌, ◌≢◌, ◌⊎◌, ℕ, List, [], ◌++◌, Option, Some, None, ⊤}
 use Rattle.fly_ports.specs.Files.{Contents, FilesState, FailsToRead}
-use Rattle.fly_ports.specs.Sink.{Writes, FailsToWrite, Tries}
+use Rattle.fly_ports.specs.Sink.{SinkState, Writes, FailsToWrite, Tries}
 use Rattle.fly_docs.specs.declared.workflow.Bundle.{Bundle}
 use Rattle.fly_docs.specs.declared.closure.Closure.{Closure}
-use Rattle.fly_docs.specs.Acyclic.{IsAcyclic}
+use Rattle.fly_docs.specs.Acyclic.{RunsAcyclic}
 use Rattle.fly_docs.specs.Closures.{closure_of}
 use Rattle.fly_docs.specs.Typed.{IsTyped}
-use Rattle.fly_app.specs.declared.faults.DocKind.{DocKind}
-use Rattle.fly_app.specs.declared.faults.DocKind.TheVariants.{NoMemory}
+use Rattle.fly_schema.specs.declared.fault.DocFault.{DocFault}
+use Rattle.fly_schema.specs.declared.fault.DocKind.TheVariants.{NoMemory}
+use Rattle.fly_writers.specs.Closures.{closure_text}
+use Rattle.fly_idl.specs.Reading.{ReadsBundle, IsFirstFault}
+use Rattle.fly_idl.specs.Rows.{bundle_form}
+use Rattle.fly_faults.specs.FaultList.{faults_of}
 use Rattle.fly_app.specs.declared.status.Status.{Status}
 use Rattle.fly_app.specs.declared.status.Status.TheVariants as statuses
 use Rattle.fly_app.specs.Words.{Request, compile, help, version, IsRequest, IsFirstWrong}
 use Rattle.fly_app.specs.Outside.{Outside, IsContent, IsTold, IsUnread, ReadsAll, WritesAll}
-use Rattle.fly_app.specs.Printing.{newline, usage_text, document_line, unread_text, unwritten_text, no_memory_text, FailsToSay}
-use Rattle.fly_app.specs.Documents.{closure_text}
-use Rattle.fly_app.specs.Reading.{Reads, FirstFault, place_of}
+use Rattle.fly_app.specs.Printing.{newline, usage_text, document_line, fault_lines, unread_text, unwritten_text, no_memory_text, FailsToSay}
 use Rattle.fly_app.specs.Help.{help_text, version_text}
 
 -- ---- compile
 
--- A file at the path, the one that is told where contents are. It is a well-typed bundle, whose primary workflow is acyclic, and this is
--- the text of its closure with a newline.
+-- A file at the path, the one that is told where contents are. It is a bundle that is well typed and acyclic, and this is the text of its
+-- closure with a newline.
 pub record HasClosure (contents : Option Contents) (path text : List ℕ) : Type 0 where
   pub file : List ℕ
   pub content : IsContent contents path file
   pub bundle : Bundle
-  pub reads : Reads file bundle
+  pub reads : ReadsBundle file bundle
+  pub faultless : faults_of bundle ≡ []
   pub typed : IsTyped bundle
+  pub acyclic : RunsAcyclic bundle
   pub closure : Closure
   pub compiled : closure_of bundle ≡ Some closure
-  pub acyclic : IsAcyclic closure.primary
   pub printed : text ≡ closure_text closure ++ newline
 
--- a file at the path whose document breaks a rule first of this kind, as the line says
+-- a file at the path whose document breaks a rule first here, as the line says
 pub record HasDocumentFault (contents : Option Contents) (path line : List ℕ) : Type 0 where
   pub file : List ℕ
   pub content : IsContent contents path file
-  pub kind : DocKind
-  pub fault : FirstFault file kind
-  pub known : kind ≢ NoMemory
-  pub printed : line ≡ document_line kind (place_of kind)
+  pub fault : DocFault
+  pub first : IsFirstFault bundle_form file fault
+  pub known : fault.kind ≢ NoMemory
+  pub printed : line ≡ document_line fault.kind fault.place
+
+-- a file at the path whose bundle is not well typed or not acyclic, and a line for each of its faults
+pub record HasBundleFaults (contents : Option Contents) (path lines : List ℕ) : Type 0 where
+  pub file : List ℕ
+  pub content : IsContent contents path file
+  pub bundle : Bundle
+  pub reads : ReadsBundle file bundle
+  pub faulty : faults_of bundle ≢ []
+  pub not_typed : IsTyped bundle → RunsAcyclic bundle → ⊥
+  pub printed : lines ≡ fault_lines (faults_of bundle)
 
 -- ---- answers
 
@@ -60,7 +73,7 @@ HasText contents version text = text ≡ version_text
 
 -- the lines with which it is refused
 abbrev pub HasRefusal : Option Contents → Request → List ℕ → Type 0
-HasRefusal contents (compile path) lines = HasDocumentFault contents path lines
+HasRefusal contents (compile path) lines = HasDocumentFault contents path lines ⊎ HasBundleFaults contents path lines
 HasRefusal contents _ lines = ⊥
 
 -- the file at this path is to be read for it

@@ -16,7 +16,8 @@ help_text =
     ++ codes "Statuses:" ++ newline
     ++ codes "  0  the answer was printed" ++ newline
     ++ codes "  2  the words are no command: usage: word K, the number of the first wrong word, from 0" ++ newline
-    ++ codes "  3  the bundle is refused: a line for its first fault, bundle: KIND PLACE" ++ newline
+    ++ codes "  3  the bundle is refused: bundle: KIND PLACE, the first fault of the document; or for each fault of what it says" ++ newline
+    ++ codes "     a line, bundle: CODE PLACE, with what more there is to say" ++ newline
     ++ codes "  4  the file is absent or could not be read" ++ newline
     ++ codes "  5  the answer could not be written" ++ newline
     ++ codes "  6  there was no memory" ++ newline

@@ -1,8 +1,3 @@
-pub mod Json
-pub mod Documents
-pub mod SingleTask
-pub mod SingleTaskClosure
-pub mod Reading
 pub mod Words
 pub mod Command
 pub mod Outside
@@ -10,4 +5,3 @@ pub mod Printing
 pub mod Help
 pub mod Answers
 pub mod Compiling
-pub mod Candidate

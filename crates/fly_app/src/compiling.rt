@@ -1,14 +1,16 @@
-ghost use Rattle.std.specs.Prelude.{ℕ, List};
-ghost use Rattle.fly_app.specs.Reading.{FirstFault};
-ghost use Rattle.fly_app.specs.Compiling.{CompilesBytes, CompilesFile, RefusesBytes};
+ghost use Rattle.std.specs.Prelude.{◌≡◌, IfOk, IfErr, MatchResult};
+ghost use Rattle.fly_idl.specs.Reading.{ReadsBundle};
+ghost use Rattle.fly_docs.specs.Form.{IsBundleInForm};
+ghost use Rattle.fly_app.specs.Compiling.{CompilesFile, RefusesBytes, RefusesBundle, HasTextOf};
 
-use crate::compile::{CompileFault, compile};
-use crate::faults::{DOCUMENT_LIMIT, DocKind};
-use crate::printing::document_line;
-use crate::read_bundle::read_bundle;
-use crate::write_closure::write_closure;
+use crate::printing::{document_line, fault_lines};
+use fly_compile::{CompileFault, compile, no_faults_exactly_where_typed};
+use fly_docs::Bundle;
+use fly_idl::{DOCUMENT_LIMIT, read_bundle};
 use fly_ports::{Files, ReadFault};
+use fly_schema::{DocFault, DocKind};
 use fly_types::NoMemory;
+use fly_writers::write_closure;
 use std::alloc::Global;
 
 /// Why there is no closure to print.
@@ -21,31 +23,48 @@ pub enum Unanswered {
     NoMemory,
 }
 
-/// The refusal of bytes with a fault of this kind.
-fn refusal(alloc: Global, kind: DocKind) -> Unanswered
-    ensures { (bytes : List ℕ) → FirstFault bytes kind → RefusesBytes bytes result }
+/// These lines, where there was memory for them.
+fn refusal(lines: Result<String, NoMemory>) -> Unanswered
+    ensures { MatchResult lines (λ l. result ≡ Unanswered.Refused l) (λ e. result ≡ Unanswered.NoMemory) }
 {
-    if kind == DocKind::NoMemory {
-        return Unanswered::NoMemory;
-    }
-    match document_line(alloc, kind, "/") {
-        Ok(line) => Unanswered::Refused(line),
+    match lines {
+        Ok(lines) => Unanswered::Refused(lines),
         Err(NoMemory) => Unanswered::NoMemory,
     }
 }
 
-/// The text of the closure of the bundle that the bytes are, with a newline.
-fn closure_of_bytes(alloc: Global, bytes: &[u8]) -> Result<Vec<u8>, Unanswered>
-    ensures { CompilesBytes bytes.now result }
+/// The bundle whose document the bytes are.
+fn bundle_of(alloc: Global, bytes: &[u8]) -> Result<Bundle, Unanswered>
+    ensures ok { IfOk result (ReadsBundle bytes.now) }
+    ensures form { IfOk result IsBundleInForm }
+    ensures err { IfErr result (RefusesBytes bytes.now) }
 {
-    let bundle = match read_bundle(alloc, bytes) {
-        Ok(bundle) => bundle,
-        Err(fault) => return Err(refusal(alloc, fault.kind)),
-    };
+    match read_bundle(alloc, bytes) {
+        Ok(bundle) => Ok(bundle),
+        Err(
+            DocFault {
+                kind: DocKind::NoMemory,
+                ..
+            },
+        ) => Err(Unanswered::NoMemory),
+        Err(fault) => Err(refusal(document_line(alloc, fault.kind, fault.place.as_str()))),
+    }
+}
+
+/// The text of the bundle's closure, with a newline. The bundle is given up before the text is written.
+fn closure_text_of(alloc: Global, bundle: Bundle) -> Result<Vec<u8>, Unanswered>
+    requires { IsBundleInForm bundle }
+    ensures ok { IfOk result (λ text. HasTextOf bundle text.items) }
+    ensures err { IfErr result (RefusesBundle bundle) }
+{
     let closure = match compile(alloc, &bundle) {
         Ok(closure) => closure,
+        Err(CompileFault::Refused(faults)) => {
+            return Err(refusal(fault_lines(alloc, faults.as_slice())));
+        }
         Err(CompileFault::NoMemory) => return Err(Unanswered::NoMemory),
     };
+    drop(bundle);
     let Ok(mut text) = write_closure(alloc, &closure) else {
         return Err(Unanswered::NoMemory);
     };
@@ -63,10 +82,17 @@ pub fn closure_of_file<F: Files>(
 ) -> Result<Vec<u8>, Unanswered>
     ensures { CompilesFile (F.state files.old) (F.state files.new) path.now result }
 {
-    match files.read(alloc, path, DOCUMENT_LIMIT) {
-        Ok(bytes) => closure_of_bytes(alloc, &bytes),
-        Err(ReadFault::Failed) => Err(Unanswered::Unread),
-        Err(ReadFault::Absent) => Err(Unanswered::Unread),
-        Err(ReadFault::NoMemory) => Err(Unanswered::NoMemory),
-    }
+    let bytes = match files.read(alloc, path, DOCUMENT_LIMIT) {
+        Ok(bytes) => bytes,
+        Err(ReadFault::Failed) => return Err(Unanswered::Unread),
+        Err(ReadFault::Absent) => return Err(Unanswered::Unread),
+        Err(ReadFault::NoMemory) => return Err(Unanswered::NoMemory),
+    };
+    let bundle = match bundle_of(alloc, &bytes) {
+        Ok(bundle) => bundle,
+        Err(refused) => return Err(refused),
+    };
+    drop(bytes);
+    no_faults_exactly_where_typed();
+    closure_text_of(alloc, bundle)
 }

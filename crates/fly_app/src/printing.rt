@@ -1,10 +1,12 @@
-ghost use Rattle.std.specs.Prelude.{◌≡◌, IfOk, MatchResult, string_bytes};
+ghost use Rattle.std.specs.Prelude.{◌≡◌, ◌≢◌, ◌++◌, IfOk, OnOk, MatchResult, string_bytes};
 ghost use Rattle.fly_ports.specs.Sink.{Tries};
-ghost use Rattle.fly_app.specs.Printing.{PrintsText, SaysLine, no_memory_text, kind_name as name_of_kind, usage_text, document_line as line_of_document, unread_text};
+ghost use Rattle.fly_schema.specs.declared.fault.DocKind.{DocKind};
+ghost use Rattle.fly_app.specs.Printing.{PrintsText, SaysLine, no_memory_text, kind_name as name_of_kind, code_name as name_of_code, usage_text, document_line as line_of_document, fault_line as line_of_fault, fault_lines as lines_of_faults, unread_text};
 
 use crate::Status;
-use crate::faults::DocKind;
+use fly_compile::{Code, Fault};
 use fly_ports::Sink;
+use fly_schema::DocKind;
 use fly_types::NoMemory;
 use std::alloc::Global;
 
@@ -18,9 +20,42 @@ fn kind_name(kind: DocKind) -> &'static str
 {
     match kind {
         DocKind::NotJson => "NotJson",
+        DocKind::FloatRefused => "FloatRefused",
+        DocKind::WrongKind => "WrongKind",
+        DocKind::Missing => "Missing",
+        DocKind::LeftOut => "LeftOut",
+        DocKind::TooDeep => "TooDeep",
         DocKind::TooLarge => "TooLarge",
-        DocKind::NotBuilt => "NotBuilt",
         DocKind::NoMemory => "",
+    }
+}
+
+fn code_name(code: Code) -> &'static str
+    ensures { result.now ≡ name_of_code code }
+{
+    match code {
+        Code::DuplicateId => "DuplicateId",
+        Code::WorkflowNotFound => "WorkflowNotFound",
+        Code::NoNodes => "NoNodes",
+        Code::TooManyNodes => "TooManyNodes",
+        Code::TaskNotFound => "TaskNotFound",
+        Code::NodeNotFound => "NodeNotFound",
+        Code::BranchNoCondition => "BranchNoCondition",
+        Code::BoundTwice => "BoundTwice",
+        Code::VariableNotFound => "VariableNotFound",
+        Code::IllegalEnumValue => "IllegalEnumValue",
+        Code::MismatchedTypes => "MismatchedTypes",
+        Code::NotBound => "NotBound",
+        Code::ArrayNoMapped => "ArrayNoMapped",
+        Code::TypeTooDeep => "TypeTooDeep",
+        Code::ExprFault => "ExprFault",
+        Code::OutputNotBound => "OutputNotBound",
+        Code::CycleDetected => "CycleDetected",
+        Code::TemplateInput => "TemplateInput",
+        Code::RecursiveWorkflow => "RecursiveWorkflow",
+        Code::NestingTooDeep => "NestingTooDeep",
+        Code::PlanTooLarge => "PlanTooLarge",
+        Code::TooManyArrays => "TooManyArrays",
     }
 }
 
@@ -37,6 +72,33 @@ pub fn document_line(alloc: Global, kind: DocKind, place: &str) -> Result<String
 {
     let name = kind_name(kind);
     Ok(format!(in alloc; "bundle: {name} {place}\n")?)
+}
+
+/// Adds the line of a fault: its code, its place, and what more there is to say.
+fn add_fault_line(lines: &mut String, fault: &Fault) -> Result<(), NoMemory>
+    ensures { OnOk result (string_bytes lines.new ≡ string_bytes lines.old ++ line_of_fault fault.now) }
+{
+    lines.push_str("bundle: ")?;
+    lines.push_str(code_name(fault.code))?;
+    lines.push_str(" ")?;
+    lines.push_str(fault.place.as_str())?;
+    if !fault.detail.is_empty() {
+        lines.push_str(" ")?;
+        lines.push_str(fault.detail.as_str())?;
+    }
+    lines.push_str("\n")?;
+    Ok(())
+}
+
+/// A line for each fault of a bundle.
+pub fn fault_lines(alloc: Global, faults: &[Fault]) -> Result<String, NoMemory>
+    ensures { IfOk result (λ lines. string_bytes lines ≡ lines_of_faults faults.now) }
+{
+    let mut lines = String::new(alloc);
+    for fault in faults {
+        add_fault_line(&mut lines, fault)?;
+    }
+    Ok(lines)
 }
 
 /// The file that could not be read.
