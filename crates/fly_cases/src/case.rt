@@ -9,7 +9,7 @@ use std::alloc::Global;
 const ROOM: u64 = 1 << 16;
 
 /// Want of memory, as an error of this program.
-fn wants_memory(_: NoMemory) -> Error {
+pub fn wants_memory(_: NoMemory) -> Error {
     anyhow!("out of memory")
 }
 

@@ -1,16 +1,22 @@
-//! Runs cases that are data: each line of standard input is one JSON object, a document that later lines name, or
-//! a case, whose words are run by the top call over files and streams in memory. What each case came to is printed.
+//! Runs cases that are data: each line of standard input is one JSON object. It is a document that later lines name; or
+//! a case, whose words are run by the top call over files and streams in memory; or a document that is read; or a call
+//! of one function. What each came to is printed.
 #![tactic(auto)]
 
+mod calls;
 mod case;
 mod content;
+mod messages;
 mod outcome;
+mod reading;
 
 use anyhow::{Context, Result};
+use calls::make_call;
 use case::Case;
 use content::Documents;
 use fly_ports::{Hand, ListClock, OpenGate, TableSpawner};
 use outcome::Outcome;
+use reading::read_document;
 use serde_json::Value;
 use std::alloc::Global;
 use std::io::{BufRead, BufReader, BufWriter, Write};
@@ -51,10 +57,14 @@ fn main(rt: HostRuntime) -> Result<()> {
         let value = Value::from_str(alloc, line.as_str()).context("a line of the cases")?;
         if let Some(name) = value.get("document").and_then(Value::as_str) {
             documents.add(alloc, name, &value)?;
-            continue;
+        } else if value.get("read").is_some() {
+            read_document(alloc, &documents, &value, &mut writer)?;
+        } else if value.get("call").is_some() {
+            make_call(alloc, &value, &mut writer)?;
+        } else {
+            let case = Case::read(alloc, &documents, &value)?;
+            run(&rt, alloc, case)?.print(&mut writer)?;
         }
-        let case = Case::read(alloc, &documents, &value)?;
-        run(&rt, alloc, case)?.print(&mut writer)?;
     }
     writer.flush()?;
     Ok(())
