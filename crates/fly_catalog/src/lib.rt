@@ -10,6 +10,8 @@ mod parts;
 mod requests;
 mod reservations;
 mod table;
+#[cfg(test)]
+mod tests;
 
 pub use cached::{cached_dataset, cached_tag, owner_of};
 pub use catalog::Catalog;
