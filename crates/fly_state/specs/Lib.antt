@@ -1,7 +1,12 @@
 pub mod Plans
+pub mod Tables
+pub mod Looks
+pub mod Sites
 pub mod PlanTables
 pub mod States
 pub mod Standing
+pub mod Origins
+pub mod Values
 pub mod Inputs
 pub mod Moves
 pub mod Rounds

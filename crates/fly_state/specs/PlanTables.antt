@@ -1,24 +1,57 @@
 -- Which closures have a plan today, and what a plan keeps in tables.
-use Rattle.std.specs.Prelude.{◌≡◌, ℕ, ◌<◌, ◌≤◌, ◌^◌, List, [], ◌∷◌, map, length, position, bytes_eq}
+use Rattle.std.specs.Prelude.{◌≡◌, ℕ, ◌<◌, ◌≤◌, ◌^◌, List, [], ◌∷◌, map, length, slice_get, Some, Option}
 use Rattle.std.specs.BTreeMap.{BTreeMap, get}
+use Rattle.std.specs.List.{enumerate_from}
 use Rattle.std.specs.Ordering.{nat_cmp}
 use Rattle.std.specs.Cmp.Lexicographic.{slice_cmp}
 use Rattle.fly_types.specs.declared.text.Text.{Text}
+use Rattle.fly_docs.specs.declared.node.Node.{Node}
+use Rattle.fly_docs.specs.declared.workflow.Workflow.{Workflow}
 use Rattle.fly_docs.specs.declared.workflow.Bundle.{Bundle}
 use Rattle.fly_docs.specs.declared.closure.Closure.{Closure}
+use Rattle.fly_docs.specs.Acyclic.{RunsAcyclic}
+use Rattle.fly_docs.specs.Closures.{bundle_of}
+use Rattle.fly_docs.specs.Lookups.{primary_of}
 use Rattle.fly_docs.specs.Plans.{PlanNode, nodes_of, plan_of}
 use Rattle.fly_docs.specs.Readable.{HasTaskNodes}
-use Rattle.fly_state.specs.Plans.{Path}
+use Rattle.fly_docs.specs.Typed.{IsTyped, IsTypedWorkflow}
+use Rattle.fly_state.specs.declared.sites.Site.{Site}
+use Rattle.fly_state.specs.Plans.{RunPlan}
+use Rattle.fly_state.specs.Looks.{IsLookOrder}
+use Rattle.fly_state.specs.Sites.{node_place, binding_place, site_of, looks_at}
 
 -- its primary workflow has task nodes alone, and no more nodes than a typed workflow has
 pub record IsPlannable (c : Closure) : Type 0 where
   pub plain : HasTaskNodes c.primary
   pub few : length (nodes_of c.primary) ≤ 1024
 
--- the paths of the nodes in their order, which are of one id each, and the number of each id
-pub record HasTables (b : Bundle) (paths : List Path) (numbers : BTreeMap Text ℕ) : Type 0 where
-  pub ids : List Text
-  pub single : map (λ id. id ∷ []) ids ≡ paths
-  pub paths_are : map (λ (p : PlanNode). p.path) (plan_of b) ≡ paths
-  pub few : length paths < 2 ^ 32
-  pub numbered : (id : Text) → get (slice_cmp nat_cmp) numbers id ≡ position (bytes_eq id) ids
+-- its templates are typed, and no node of what is run needs itself
+pub record IsCompiled (c : Closure) : Type 0 where
+  pub typed : IsTyped (bundle_of c)
+  pub acyclic : RunsAcyclic (bundle_of c)
+
+-- a node of the primary workflow that stands in no other, by its place
+abbrev pub outer_node : Workflow → ℕ × Node → PlanNode
+outer_node w at = record { path = at.1.id ∷ []; workflow = w; place = at.0; node = at.1 }
+
+-- The tables of a plan of task nodes in one workflow: the number of each id, a site for each node, an order by what they look at, and the
+-- places of the bindings of the workflow's outputs.
+pub record HasTables (b : Bundle) (numbers : BTreeMap Text ℕ) (sites : List Site) (order : List ℕ) (outputs : List (Option ℕ)) : Type 0 where
+  pub workflow : Workflow
+  pub first : slice_get b.workflows 0 ≡ Some workflow
+  pub named : primary_of b ≡ Some workflow
+  pub plain : HasTaskNodes workflow
+  pub nodes_are : plan_of b ≡ map (outer_node workflow) (enumerate_from 0 workflow.nodes)
+  pub few : length workflow.nodes < 2 ^ 32
+  pub numbered : (id : Text) → get (slice_cmp nat_cmp) numbers id ≡ node_place workflow.nodes id
+  pub sites_are : sites ≡ map (site_of b.tasks workflow.nodes) workflow.nodes
+  pub order_is : IsLookOrder (looks_at sites) (length sites) order
+  pub outputs_are : outputs ≡ map (binding_place workflow.outputs) workflow.interface.outputs
+  pub typed : IsTyped b
+
+-- a plan of task nodes in one workflow, which is typed
+pub record IsOuterPlan (plan : RunPlan) (w : Workflow) : Type 0 where
+  pub named : primary_of plan.documents ≡ Some w
+  pub plain : HasTaskNodes w
+  pub nodes_are : plan.nodes ≡ map (outer_node w) (enumerate_from 0 w.nodes)
+  pub typed : IsTypedWorkflow plan.documents w

@@ -1,7 +1,7 @@
 -- How a node stands in a state. A case looks at its branch, against the edge by which the branch needs it; any other node looks at those that it
 -- needs.
-use Rattle.std.specs.Prelude.{ℕ, Bool, ◌&&◌, ◌||◌, List, ◌∷◌, map, length, Option, Some, None}
-use Rattle.std.specs.List.{list_all}
+use Rattle.std.specs.Prelude.{◌≡◌, ℕ, Bool, ◌&&◌, ◌||◌, List, ◌∷◌, map, length, slice_get, unwrap_or, Option, Some, None}
+use Rattle.std.specs.List.{list_all, range_with_len}
 use Rattle.fly_docs.specs.Plans.{PlanNode}
 use Rattle.fly_rules.specs.Rules.{Rule, solution_of}
 use Rattle.fly_rules.specs.Standing.{Standing, waiting, blocked, skipped, ready, is_blocked_standing, standing_among, BranchSight, undecided, stuck, passed_over, chose, standing_of_case}
@@ -9,6 +9,8 @@ use Rattle.fly_state.specs.declared.phase.Phase.{Phase}
 use Rattle.fly_state.specs.declared.phase.Phase.TheVariants as phase
 use Rattle.fly_state.specs.declared.slots.SlotState.{SlotState}
 use Rattle.fly_state.specs.declared.slots.ExecState.{ExecState}
+use Rattle.fly_state.specs.declared.standing.Standing.{Standing as Told}
+use Rattle.fly_state.specs.declared.standing.Standing.TheVariants as tells
 use Rattle.fly_state.specs.Plans.{RunPlan, Path, CaseOf, node_numbered, nodes_in, case_of, looks}
 use Rattle.fly_state.specs.States.{own_state, phase_of, is_final, is_not_yet_started}
 
@@ -43,6 +45,23 @@ branch_sight branch standing = by branch.phase standing
     by phase.Skipped _ = passed_over
     by f _ = sight_of_choice f branch.choice
 
+-- ---- what is answered
+
+-- the standing that a value of the program stands for
+abbrev pub meaning_of : Told → Standing
+meaning_of tells.Waiting = waiting
+meaning_of tells.Blocked = blocked
+meaning_of tells.Skipped = skipped
+meaning_of tells.Ready = ready
+
+-- how a node stands by what is known; who isn't known counts as blocked
+abbrev pub known_standing : List Told → ℕ → Standing
+known_standing known i = meaning_of (unwrap_or (slice_get known i) tells.Blocked)
+
+-- what each of these nodes is by itself to one that looks at them
+abbrev pub signs_at : ExecState → (ℕ → Standing) → List ℕ → List Standing
+signs_at s standing numbers = map (λ i. sign_of (phase_of s i) (standing i)) numbers
+
 -- ---- the rule
 
 -- what comes of the nodes that a node promises from or names
@@ -67,6 +86,10 @@ standing_rule plan s = record { looks = looks plan; value = standing_by plan s }
 -- how the node of this number stands, where it is not yet started: the one solution of the rule
 abbrev pub standing_of : RunPlan → ExecState → ℕ → Standing
 standing_of plan s i = solution_of (standing_rule plan s) (length plan.nodes) i
+
+-- the standings of all nodes, by their numbers
+abbrev pub AreStandings : RunPlan → ExecState → List Told → Type 0
+AreStandings plan s known = map meaning_of known ≡ map (standing_of plan s) (range_with_len 0 (length plan.nodes))
 
 -- ---- instances that have come to their end
 

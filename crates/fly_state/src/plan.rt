@@ -8,8 +8,16 @@ ghost use Rattle.fly_docs.specs.declared.node.Target.{out-Target};
 ghost use Rattle.fly_docs.specs.Readable.{IsTaskTarget};
 ghost use Rattle.fly_docs.specs.Closures.{bundle_of};
 ghost use Rattle.fly_docs.specs.Plans.{PlanNode};
+ghost use Rattle.fly_docs.specs.declared.task.Task as task;
+ghost use Rattle.fly_state.specs.Sites.{binding_place, site_by};
 
-use fly_docs::{Bundle, Closure, Node, Target};
+use crate::looks::order_of;
+use crate::origins::{Origin, is_start, variable_origin};
+use crate::sites::{Site, places_of_variables, sites_of};
+use crate::standing::standing_among;
+use crate::tables::{first_places, task_keys};
+use crate::{ExecState, Standing};
+use fly_docs::{Bundle, Closure, Node, Target, Task, Workflow};
 use fly_types::{List, NoMemory, Text, TryCopy};
 use std::alloc::Global;
 use std::collections::BTreeMap;
@@ -23,9 +31,13 @@ const MOST_NODES: usize = 1024;
 #[derive(Drop)]
 pub struct Plan {
     documents: Bundle,
-    paths: Vec<List<Text>>,
     /// The number of each node, by its id.
     numbers: BTreeMap<Text, u32>,
+    sites: List<Site>,
+    /// The numbers, each behind those that it looks at.
+    order: List<u32>,
+    /// For each output of the run the place of its binding.
+    outputs: List<Option<usize>>,
 }
 
 impl Model for Plan {
@@ -47,12 +59,19 @@ impl Model for Plan {
 
     ghost view = { λ p. run_plan p.documents };
 
-    ghost invariant = { λ p. HasTables p.documents p.paths.items p.numbers };
+    ghost invariant = { λ p. HasTables p.documents p.numbers p.sites p.order p.outputs };
 }
 
 impl Plan {
-    ghost use Rattle.fly_state.specs.Plans.{plan_for, node_numbered, number_of};
-    ghost use Rattle.fly_state.specs.PlanTables.{IsPlannable};
+    ghost use Rattle.fly_rules.specs.Rules.{values_at};
+    ghost use Rattle.std.specs.Prelude.{option_and_then};
+    ghost use Rattle.std.specs.Option.{option_copied};
+    ghost use Rattle.fly_docs.specs.Bindings.{source_node};
+    ghost use Rattle.fly_state.specs.Plans.{plan_for, node_numbered, number_of, number_in, looks, task_of};
+    ghost use Rattle.fly_state.specs.Origins.{source_of_origin, source_in_run};
+    ghost use Rattle.fly_state.specs.Looks.{IsLookOrder};
+    ghost use Rattle.fly_state.specs.Standing.{meaning_of, known_standing, standing_by};
+    ghost use Rattle.fly_state.specs.PlanTables.{IsPlannable, IsCompiled, IsOuterPlan};
 
     /// Whether the closure is one that has a plan today: of task nodes alone, and no more than a workflow may have.
     pub fn expands(c: &Closure) -> bool
@@ -72,17 +91,26 @@ impl Plan {
 
     /// The plan of a closure that the compiler gave, of task nodes alone.
     pub fn expand(alloc: Global, c: &Closure) -> Result<Plan, NoMemory>
-        requires { IsPlannable c.now }
+        requires plannable { IsPlannable c.now }
+        requires compiled { IsCompiled c.now }
         ensures { IfOk result (λ plan. plan ≡ plan_for c.now) }
     {
         let nodes = c.primary.nodes.as_slice();
-        let paths = paths_of(alloc, nodes)?;
         let numbers = numbers_of(alloc, nodes)?;
+        let sites = sites_in(alloc, c, &numbers)?;
+        let order = order_of(alloc, &sites)?;
+        let outputs = places_of_variables(
+            alloc,
+            c.primary.interface.outputs.as_slice(),
+            c.primary.outputs.as_slice(),
+        )?;
         let documents = templates(alloc, c)?;
         Ok(Plan {
             documents,
-            paths,
             numbers,
+            sites: List::from_vec(sites),
+            order,
+            outputs: List::from_vec(outputs),
         })
     }
 
@@ -90,7 +118,7 @@ impl Plan {
     pub fn len(&self) -> u32
         ensures { result ≡ length self.now.nodes }
     {
-        self.paths.len() as u32
+        self.sites.len() as u32
     }
 
     /// The path of the node of this number.
@@ -98,7 +126,7 @@ impl Plan {
         requires { n < length self.now.nodes }
         ensures { option_map (λ (p : PlanNode). p.path) (node_numbered self.now n) ≡ Some result.now }
     {
-        &self.paths[n as usize]
+        &self.sites.as_slice()[n as usize].path
     }
 
     /// The number of the node that has the path.
@@ -111,6 +139,97 @@ impl Plan {
             return None;
         }
         numbers.get(&path[0]).copied()
+    }
+
+    /// The numbers, each behind those that it looks at.
+    pub(crate) fn order(&self) -> &[u32]
+        ensures { IsLookOrder (looks self.now) (length self.now.nodes) result.now }
+    {
+        self.order.as_slice()
+    }
+
+    /// The primary workflow.
+    pub(crate) fn primary(&self) -> &Workflow
+        ensures { IsOuterPlan self.now result.now }
+    {
+        &self.documents.workflows.as_slice()[0]
+    }
+
+    /// The number of the node of a promise. The start is no node.
+    pub(crate) fn source_number(&self, node: &Text) -> Option<u32>
+        ensures { result ≡ number_in self.now [] (source_node node.now) }
+    {
+        let numbers = &self.numbers;
+        if is_start(node) {
+            return None;
+        }
+        numbers.get(node).copied()
+    }
+
+    /// The node of this number.
+    pub(crate) fn node(&self, number: u32) -> &Node
+        requires { number < length self.now.nodes }
+        ensures { option_map (λ (p : PlanNode). p.node) (node_numbered self.now number) ≡ Some result.now }
+    {
+        let nodes = self.documents.workflows.as_slice()[0].nodes.as_slice();
+        &nodes[number as usize]
+    }
+
+    /// The task that the node of this number runs.
+    pub(crate) fn task(&self, number: u32) -> Option<&Task>
+        ensures { option_copied result ≡ option_and_then (task_of self.now) (node_numbered self.now number) }
+    {
+        let Some(site) = self.sites.get(number as usize) else {
+            return None;
+        };
+        let Some(place) = site.task else {
+            return None;
+        };
+        self.documents.tasks.get(place)
+    }
+
+    /// What a promise in the primary workflow is of.
+    pub(crate) fn source(&self, node: &Text, var: &Text) -> Origin<'_>
+        ensures { source_of_origin result ≡ source_in_run self.now (source_node node.now, var.now) }
+    {
+        let primary = &self.documents.workflows.as_slice()[0];
+        if is_start(node) {
+            return variable_origin(primary.interface.inputs.as_slice(), var);
+        }
+        let Some(number) = self.source_number(node) else {
+            return Origin::NoNode;
+        };
+        match self.task(number) {
+            Some(task) => variable_origin(task.interface.outputs.as_slice(), var),
+            None => Origin::Anything,
+        }
+    }
+
+    /// For each input of its task the place of its binding at the node of this number.
+    pub(crate) fn bindings(&self, number: u32) -> &[Option<usize>]
+        requires { number < length self.now.nodes }
+        ensures { (p : PlanNode) (t : task.Task) → node_numbered self.now number ≡ Some p → task_of self.now p ≡ Some t
+            → result.now ≡ map (binding_place p.node.inputs) t.interface.inputs }
+    {
+        self.sites.as_slice()[number as usize].bindings.as_slice()
+    }
+
+    /// What the node of this number looks at.
+    pub(crate) fn looks(&self, number: u32) -> &[u32]
+        requires { number < length self.now.nodes }
+        ensures { result.now ≡ looks self.now number }
+    {
+        self.sites.as_slice()[number as usize].looks.as_slice()
+    }
+
+    /// How the node of this number stands, where those that it looks at stand as is known.
+    pub(crate) fn standing_by(&self, state: &ExecState, number: u32, known: &[Standing]) -> Standing
+        requires { number < length self.now.nodes }
+        ensures { meaning_of result
+            ≡ standing_by self.now state.now number (values_at (known_standing known.now) (looks self.now number)) }
+    {
+        self.primary();
+        standing_among(state, self.looks(number), known)
     }
 }
 
@@ -139,23 +258,23 @@ fn templates(alloc: Global, c: &Closure) -> Result<Bundle, NoMemory>
     })
 }
 
-/// The paths of nodes that stand in no workflow node.
-fn paths_of(alloc: Global, nodes: &[Node]) -> Result<Vec<List<Text>>, NoMemory>
-    ensures { IfOk result (λ paths. paths.items ≡ map (λ (n : node.Node). n.id ∷ []) nodes.now) }
+/// The sites of the nodes of a closure's primary workflow.
+fn sites_in(
+    alloc: Global,
+    c: &Closure,
+    numbers: &BTreeMap<Text, u32>,
+) -> Result<Vec<Site>, NoMemory>
+    ensures { IfOk result (λ sites. sites.items ≡ map (site_by c.now.tasks (get (slice_cmp nat_cmp) numbers.now)) c.now.primary.nodes) }
 {
-    let mut paths = Vec::with_capacity(alloc, nodes.len())?;
-    for node in nodes {
-        paths.push(path_to(alloc, &node.id)?)?;
-    }
-    Ok(paths)
-}
-
-fn path_to(alloc: Global, id: &Text) -> Result<List<Text>, NoMemory>
-    ensures { IfOk result (λ path. path ≡ id.now ∷ []) }
-{
-    let mut path = Vec::with_capacity(alloc, 1)?;
-    path.push(id.copy(alloc)?)?;
-    Ok(List::from_vec(path))
+    let keys = task_keys(alloc, c.tasks.as_slice())?;
+    let places = first_places(alloc, &keys)?;
+    sites_of(
+        alloc,
+        &c.tasks,
+        &places,
+        numbers,
+        c.primary.nodes.as_slice(),
+    )
 }
 
 /// The number of each node by its id. Of two nodes with one id the first is found.

@@ -1,5 +1,6 @@
-use Rattle.std.proofs.Common.{◌≡◌, length, get_or, position, bytes_eq, sym, ap, ◌∙◌}
+use Rattle.std.proofs.Common.{◌≡◌, length, get_or, sym, ap, ◌∙◌}
 use Rattle.fly_state.specs.Plans.{number_of}
+use Rattle.fly_state.specs.Sites.{node_place}
 use Rattle.fly_state.proofs.PlanLemmas.{number_of-first, number_of-none}
 use Rattle.fly_state.proofs.plan.Plan.node_at.Goals as goal
 
@@ -8,7 +9,7 @@ returns-then-path-ne1 c =
     let fields = c.self.inside in
     let path = c.args.path.now in
     let long = ap length c.as_slice-path.ensures in
-    sym (number_of-none fields.documents fields.paths.items fields.numbers c.self.invariant path
+    sym (number_of-none fields.documents fields.numbers fields.sites fields.order fields.outputs c.self.invariant path
     (λ one. c.if-path-ne1.true (long ∙ one)))
     ∙ ap (λ plan. number_of plan path) c.self.view_is
 
@@ -21,6 +22,6 @@ returns c =
     let one : length path ≡ 1 = sym long ∙ c.if-path-ne1.false in
     let first : id ≡ get_or path 0 id = c.index-path-0.is ∙ ap (λ xs. get_or xs 0 id) c.as_slice-path.ensures in
     c.copied.ensures ∙ c.get.ensures.value ∙ c.self.invariant.numbered id
-    ∙ ap (λ x. position (bytes_eq x) c.self.invariant.ids) first
-    ∙ sym (number_of-first fields.documents fields.paths.items fields.numbers c.self.invariant path id one)
+    ∙ ap (node_place c.self.invariant.workflow.nodes) first
+    ∙ sym (number_of-first fields.documents fields.numbers fields.sites fields.order fields.outputs c.self.invariant path id one)
     ∙ ap (λ plan. number_of plan path) c.self.view_is

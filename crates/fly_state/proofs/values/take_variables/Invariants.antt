@@ -1,0 +1,11 @@
+use Rattle.std.proofs.Common.{◌≡◌, [], take, Ok}
+use Rattle.fly_cast.specs.Conversion.{each_result}
+use Rattle.fly_docs.specs.SlotInputs.{bound_value, variable_value}
+use Rattle.fly_state.specs.Origins.{source_in_run}
+use Rattle.fly_state.specs.States.{known_in}
+use Rattle.fly_state.proofs.values.take_variables.Given as goal
+
+abbrev pub invariant-loop-i : goal.invariant-loop-i
+invariant-loop-i l =
+    each_result (variable_value (bound_value (source_in_run l.plan) (known_in l.plan l.state [])) l.bindings) (take l.i l.variables)
+    ≡ Ok l.entries.items
