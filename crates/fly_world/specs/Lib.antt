@@ -1,0 +1,12 @@
+pub mod World
+pub mod Changes
+pub mod Spots
+pub mod Steps
+pub mod Journals
+pub mod ReadOff
+pub mod Opening
+pub mod Versions
+pub mod Work
+pub mod Called
+pub mod Stored
+pub mod Laws

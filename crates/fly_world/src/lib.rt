@@ -1,0 +1,18 @@
+//! The store of executions as one history of entries: what each operation answers and changes, which journals are legal,
+//! and the laws of every legal journal.
+#![tactic(auto)]
+
+mod called;
+mod laws;
+mod stored;
+mod work;
+
+pub use called::Called;
+pub use laws::{
+    final_slots_stay, journals_leave_one_world, launches_are_single, legal_prefixes,
+    moments_never_fall, names_are_of_plan, outcomes_stay, records_are_typed, reservations_hold,
+    steps_extend, timeouts_are_due, versions_are_shaped, versions_stay, views_stay,
+    worlds_tell_journals, writes_are_rounds,
+};
+pub use stored::Stored;
+pub use work::Work;
