@@ -16,5 +16,6 @@ pub mod Conditions
 pub mod Acyclic
 pub mod Typed
 pub mod Closures
+pub mod TypedClosures
 pub mod SlotInputs
 pub mod Readable
