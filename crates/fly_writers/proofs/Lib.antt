@@ -3,3 +3,4 @@ pub mod NodeLayers
 pub mod Floats
 pub mod MessageLemmas
 pub mod ScalarTexts
+mod ClosureTexts

@@ -1,8 +1,8 @@
 -- The JSON of closures, by `core/compiler.proto` of flyteidl.
-use Rattle.std.specs.Prelude.{ℕ, List, [], ◌∷◌, map, drop, slice_get, Option, option_map, Some, None, codes}
+use Rattle.std.specs.Prelude.{◌≡◌, ℕ, List, [], ◌∷◌, ◌++◌, map, drop, slice_get, Bool, ◌||◌, Option, option_map, Some, None, is_some, codes}
 use Rattle.std.specs.List.{zip}
 use Rattle.serde_json.specs.Data.{Data, string}
-use Rattle.serde_json.specs.Written.{compact_text}
+use Rattle.serde_json.specs.Written.{comma_if, compact_text}
 use Rattle.fly_docs.specs.declared.task.Task.{Task}
 use Rattle.fly_docs.specs.declared.workflow.Workflow.{Workflow}
 use Rattle.fly_docs.specs.declared.closure.Connections.{Connections}
@@ -62,3 +62,23 @@ closure_json c = message (closure_fields c)
 -- the text of a closure
 abbrev pub closure_text : Closure → List ℕ
 closure_text c = compact_text (closure_json c)
+
+-- ---- texts, a field at a time
+
+-- a value behind a comma, where another one stands before
+abbrev pub value_text : Bool → Data → List ℕ
+value_text later d = comma_if later ++ compact_text d
+
+-- the name of a field behind a comma, where another one stands before
+abbrev pub name_text : Bool → List ℕ → List ℕ
+name_text later name = value_text later (string name) ++ 58 ∷ []
+
+-- a field, where it is there
+abbrev pub field_text : Bool → List ℕ → Option Data → List ℕ
+field_text later name None = []
+field_text later name (Some d) = name_text later name ++ compact_text d
+
+-- the text goes on with a field, and a field stands then where one stood before or this one is there
+pub record PutsField (old new : List ℕ) (later there : Bool) (name : List ℕ) (value : Option Data) : Type 0 where
+  pub text : new ≡ old ++ field_text later name value
+  pub stands : there ≡ (later || is_some value)

@@ -1,10 +1,12 @@
-ghost use Rattle.std.specs.Prelude.{◌≡◌, map, drop, slice_get, IfOk, option_map};
+ghost use Rattle.std.specs.Prelude.{◌≡◌, ◌++◌, false, map, drop, slice_get, codes, IfOk, OnOk, option_map};
+ghost use Rattle.serde_json.specs.View.{items_of};
+ghost use Rattle.serde_json.specs.Written.{items_text};
 ghost use Rattle.fly_writers.specs.Json.{optional_list};
 ghost use Rattle.fly_writers.specs.Built.{data_of};
-ghost use Rattle.fly_writers.specs.Closures.{id_lists_json, connections_json, compiled_workflow_json, compiled_task_json, compiled_workflows, closure_json, closure_text};
+ghost use Rattle.fly_writers.specs.Closures.{id_lists_json, connections_json, compiled_workflow_json, compiled_task_json, compiled_workflows, closure_text, name_text, value_text, PutsField};
 
 use crate::documents::{task_value, workflow_value};
-use crate::json::{Elements, Json, Message};
+use crate::json::{Json, Message};
 use crate::message::{message_of, message_with, texts_value};
 use fly_docs::{Closure, Connections, Task, Workflow};
 use fly_types::{List, NoMemory, Text};
@@ -57,50 +59,122 @@ fn compiled_task_value(alloc: Global, task: &Task) -> Result<Json, NoMemory>
     message_of(alloc, "template", task)
 }
 
-/// The workflows, each with its connections, as a list, which is left out where it is empty.
-fn compiled_workflows_value(
+/// Adds the name of a field, behind a comma where a field stands before.
+fn put_name(alloc: Global, text: &mut Vec<u8>, later: bool, name: &str) -> Result<(), NoMemory>
+    ensures { OnOk result (text.new.items ≡ text.old.items ++ name_text later name.now) }
+{
+    put_value(alloc, text, later, &Json::text(alloc, name)?)?;
+    text.push(b':')?;
+    Ok(())
+}
+
+/// Adds the text of a value, behind a comma where a value stands before.
+fn put_value(alloc: Global, text: &mut Vec<u8>, later: bool, value: &Json) -> Result<(), NoMemory>
+    ensures { OnOk result (text.new.items ≡ text.old.items ++ value_text later (data_of value.now)) }
+{
+    if later {
+        text.push(b',')?;
+    }
+    let written = value.to_vec(alloc)?;
+    text.extend_from_slice(&written)?;
+    Ok(())
+}
+
+/// Adds the workflows, each with its connections, and the bracket that ends a list.
+fn put_workflows(
     alloc: Global,
+    text: &mut Vec<u8>,
     workflows: &[Workflow],
     connections: &[Connections],
-) -> Result<Option<Json>, NoMemory>
-    ensures { IfOk result (λ o. option_map data_of o
-        ≡ optional_list (compiled_workflows workflows.now connections.now)) }
+) -> Result<(), NoMemory>
+    ensures { OnOk result (text.new.items
+        ≡ text.old.items ++ items_text false (items_of (compiled_workflows workflows.now connections.now))) }
 {
-    let mut values = Elements::with_capacity(alloc, workflows.len())?;
+    let mut later = false;
     let mut connections = connections.iter();
     for workflow in workflows {
         let Some(own) = connections.next() else {
             break;
         };
-        values.push(compiled_workflow_value(alloc, workflow, own)?)?;
+        let value = compiled_workflow_value(alloc, workflow, own)?;
+        put_value(alloc, text, later, &value)?;
+        later = true;
     }
-    Ok(values.into_optional())
+    text.push(b']')?;
+    Ok(())
 }
 
-/// The tasks as a list, which is left out where it is empty.
-fn compiled_tasks_value(alloc: Global, tasks: &[Task]) -> Result<Option<Json>, NoMemory>
-    ensures { IfOk result (λ o. option_map data_of o ≡ optional_list (map compiled_task_json tasks.now)) }
+/// Adds the tasks, and the bracket that ends a list.
+fn put_tasks(alloc: Global, text: &mut Vec<u8>, tasks: &[Task]) -> Result<(), NoMemory>
+    ensures { OnOk result (text.new.items
+        ≡ text.old.items ++ items_text false (items_of (map compiled_task_json tasks.now))) }
 {
-    let mut values = Elements::with_capacity(alloc, tasks.len())?;
+    let mut later = false;
     for task in tasks {
-        values.push(compiled_task_value(alloc, task)?)?;
+        let value = compiled_task_value(alloc, task)?;
+        put_value(alloc, text, later, &value)?;
+        later = true;
     }
-    Ok(values.into_optional())
+    text.push(b']')?;
+    Ok(())
 }
 
-/// The primary workflow with the first connections.
-fn primary_value(
+/// Adds the field of the primary workflow, which has the first connections, and tells whether it is there.
+fn put_primary(
     alloc: Global,
+    text: &mut Vec<u8>,
     workflow: &Workflow,
     connections: &[Connections],
-) -> Result<Option<Json>, NoMemory>
-    ensures { IfOk result (λ o. option_map data_of o
-        ≡ option_map (compiled_workflow_json workflow.now) (slice_get connections.now 0)) }
+) -> Result<bool, NoMemory>
+    ensures { IfOk result (λ there. PutsField text.old.items text.new.items false there (codes "primary")
+        (option_map (compiled_workflow_json workflow.now) (slice_get connections.now 0))) }
 {
-    match connections.first() {
-        Some(own) => Ok(Some(compiled_workflow_value(alloc, workflow, own)?)),
-        None => Ok(None),
+    let Some(own) = connections.first() else {
+        return Ok(false);
+    };
+    let value = compiled_workflow_value(alloc, workflow, own)?;
+    put_name(alloc, text, false, "primary")?;
+    put_value(alloc, text, false, &value)?;
+    Ok(true)
+}
+
+/// Adds the field of the other workflows, and tells whether a field stands now.
+fn put_subs(
+    alloc: Global,
+    text: &mut Vec<u8>,
+    later: bool,
+    workflows: &[Workflow],
+    connections: &[Connections],
+) -> Result<bool, NoMemory>
+    ensures { IfOk result (λ there. PutsField text.old.items text.new.items later there (codes "subWorkflows")
+        (optional_list (compiled_workflows workflows.now connections.now))) }
+{
+    if workflows.is_empty() || connections.is_empty() {
+        return Ok(later);
     }
+    put_name(alloc, text, later, "subWorkflows")?;
+    text.push(b'[')?;
+    put_workflows(alloc, text, workflows, connections)?;
+    Ok(true)
+}
+
+/// Adds the field of the tasks, and tells whether a field stands now.
+fn put_task_list(
+    alloc: Global,
+    text: &mut Vec<u8>,
+    later: bool,
+    tasks: &[Task],
+) -> Result<bool, NoMemory>
+    ensures { IfOk result (λ there. PutsField text.old.items text.new.items later there (codes "tasks")
+        (optional_list (map compiled_task_json tasks.now))) }
+{
+    if tasks.is_empty() {
+        return Ok(later);
+    }
+    put_name(alloc, text, later, "tasks")?;
+    text.push(b'[')?;
+    put_tasks(alloc, text, tasks)?;
+    Ok(true)
 }
 
 /// All but the first.
@@ -113,26 +187,18 @@ fn others(connections: &[Connections]) -> &[Connections]
     }
 }
 
-fn closure_value(alloc: Global, closure: &Closure) -> Result<Json, NoMemory>
-    ensures { IfOk result (λ j. data_of j ≡ closure_json closure.now) }
-{
-    let connections = closure.connections.as_slice();
-    let primary = primary_value(alloc, &closure.primary, connections)?;
-    let subs = compiled_workflows_value(alloc, closure.subs.as_slice(), others(connections))?;
-    let mut message = Message::new(alloc);
-    message.add("primary", primary)?;
-    message.add("subWorkflows", subs)?;
-    message.add(
-        "tasks",
-        compiled_tasks_value(alloc, closure.tasks.as_slice())?,
-    )?;
-    Ok(message.into_json())
-}
-
 /// The JSON of a closure, flyteidl's `CompiledWorkflowClosure`, with no space and with the keys of each object sorted by their
-/// bytes.
+/// bytes. Its tasks and workflows are written one by one, so that no tree of the whole closure is built.
 pub fn write_closure(alloc: Global, closure: &Closure) -> Result<Vec<u8>, NoMemory>
     ensures { IfOk result (λ text. text.items ≡ closure_text closure.now) }
 {
-    closure_value(alloc, closure)?.to_vec(alloc)
+    let connections = closure.connections.as_slice();
+    let mut text = Vec::new(alloc);
+    text.push(b'{')?;
+    let later = put_primary(alloc, &mut text, &closure.primary, connections)?;
+    let subs = closure.subs.as_slice();
+    let later = put_subs(alloc, &mut text, later, subs, others(connections))?;
+    put_task_list(alloc, &mut text, later, closure.tasks.as_slice())?;
+    text.push(b'}')?;
+    Ok(text)
 }

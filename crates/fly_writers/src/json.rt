@@ -1,5 +1,6 @@
 //! JSON values that are built field by field, and their text.
 ghost use Rattle.std.specs.Prelude.{◌≡◌, List, [], ◌∷◌, ◌++◌, map, false, IfOk, OnOk, Some, option_map, string_bytes};
+ghost use Rattle.std.specs.Str.{IsUtf8};
 ghost use Rattle.serde_json.specs.Data.{Data, boolean, number, unsigned, string, array, object, no_members, null as null_value};
 ghost use Rattle.serde_json.specs.Find.{of_integer};
 ghost use Rattle.serde_json.specs.View.{view, members_view, items_of};
@@ -69,7 +70,8 @@ impl Json {
 
     /// The JSON with no space and with the keys of each object sorted by their bytes.
     pub fn to_vec(&self, alloc: Global) -> Result<Vec<u8>, NoMemory>
-        ensures { IfOk result (λ text. text.items ≡ compact_text (data_of self.now)) }
+        ensures text { IfOk result (λ text. text.items ≡ compact_text (data_of self.now)) }
+        ensures utf8 { IfOk result (λ text. IsUtf8 text.items) }
     {
         Ok(self.tree.to_vec(alloc)?)
     }

@@ -1,4 +1,5 @@
 ghost use Rattle.std.specs.Prelude.{◌≡◌, [], map, IfOk, option_map, string_bytes, IsTrue};
+ghost use Rattle.std.specs.Str.{IsUtf8};
 ghost use Rattle.fly_types.specs.Sound.{IsInstant};
 ghost use Rattle.serde_json.specs.Data.{string, array};
 ghost use Rattle.serde_json.specs.View.{items_of};
@@ -15,14 +16,16 @@ use std::alloc::Global;
 
 /// The JSON of a literal, flyteidl's `Literal`, with no space and with the keys of each object sorted by their bytes.
 pub fn write_literal(alloc: Global, literal: &Literal) -> Result<Vec<u8>, NoMemory>
-    ensures { IfOk result (λ text. text.items ≡ literal_text literal.now) }
+    ensures text { IfOk result (λ text. text.items ≡ literal_text literal.now) }
+    ensures utf8 { IfOk result (λ text. IsUtf8 text.items) }
 {
     literal_value(alloc, literal)?.to_vec(alloc)
 }
 
 /// The JSON of literals by name, flyteidl's `LiteralMap`, with no space and with the keys of each object sorted by their bytes.
 pub fn write_literal_map(alloc: Global, map: &LiteralMap) -> Result<Vec<u8>, NoMemory>
-    ensures { IfOk result (λ text. text.items ≡ literal_map_text map.now) }
+    ensures text { IfOk result (λ text. text.items ≡ literal_map_text map.now) }
+    ensures utf8 { IfOk result (λ text. IsUtf8 text.items) }
 {
     let entries = entries_value(alloc, map.entries.as_slice())?;
     message_with(alloc, "literals", entries)?.to_vec(alloc)
