@@ -6,6 +6,7 @@ pub mod NodeFaultLemmas
 pub mod Known
 pub mod WorkflowFaultLemmas
 pub mod TemplateLemmas
+pub mod Runs
 pub mod RunFaultLemmas
 pub mod FaultListLaw
 pub mod Rows

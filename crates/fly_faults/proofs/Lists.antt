@@ -210,6 +210,10 @@ pub and_then_some : {X Y : Type 0} (f : X → Option Y) (o : Option X) (y : Y) �
 and_then_some f None y e = cc
 and_then_some f (Some x) y e = (x, refl, e)
 
+pub and_then_of : {X Y : Type 0} (f : X → Option Y) (o : Option X) (x : X) (y : Y) → o ≡ Some x → f x ≡ Some y
+    → option_and_then f o ≡ Some y
+and_then_of f o x y is gives = ap (option_and_then f) is ∙ gives
+
 -- ---- places
 
 pub contains_at : {X : Type 0} (xs : List X) (i : ℕ) (x : X) → slice_get xs i ≡ Some x → Contains xs x

@@ -11,20 +11,21 @@ use Rattle.fly_docs.specs.declared.node.Node.{Node}
 use Rattle.fly_docs.specs.declared.workflow.Workflow.{Workflow}
 use Rattle.fly_docs.specs.declared.workflow.Bundle.{Bundle}
 use Rattle.fly_docs.specs.Lookups.{is_same, task_named, primary_of}
-use Rattle.fly_docs.specs.Plans.{PlanNode, nodes_of, subworkflow_id, plan_of, is_array, max_nesting}
-use Rattle.fly_docs.specs.Reaching.{reaches, goes_on, workflow_place, primary_place, run_places, workflow_edges, IsReachedPlace, IsReached, is_reached_from, reached_places, reached_workflows, task_id_of, IsReachedTask, task_place, run_task_places, reached_tasks}
+use Rattle.fly_docs.specs.Plans.{PlanNode, nodes_of, plan_of, is_array, max_nesting}
+use Rattle.fly_docs.specs.Reaching.{reaches, goes_on, primary_place, workflow_edges, IsReachedPlace, IsReached, is_reached_from, reached_places, reached_workflows, task_id_of, IsReachedTask, task_place, run_task_places, reached_tasks}
 use Rattle.fly_docs.specs.Typed.{AreDistinct, NestsWithin}
 use Rattle.fly_docs.proofs.ReachingLemmas.{reaches-Decides}
 use Rattle.fly_faults.specs.declared.fault.Code.TheVariants as code
 use Rattle.fly_faults.specs.declared.fault.Fault.{Fault}
 use Rattle.fly_faults.specs.Places.{workflow_name, fault_at}
 use Rattle.fly_faults.specs.FaultList.{is_repeated, repeated_faults, max_plan, max_arrays, recursive_faults, nests_too_deep, array_count, limit_faults, or_limits}
-use Rattle.fly_faults.proofs.Lists.{and_then_some, any_at, any_found, any_none, any_nothing, apart, contains_at, distinct_from, filter_none, filter_nothing, find_position, in_filter_map, in_flat_map, in_map, in_option, in_take, map_none, number_at, numbered, of_filter_map, of_flat_map, of_map, of_option, of_take, position_find}
+use Rattle.fly_faults.proofs.Lists.{any_at, any_found, any_none, any_nothing, apart, contains_at, distinct_from, filter_none, filter_nothing, find_position, in_filter_map, in_flat_map, in_map, in_option, in_take, map_none, number_at, numbered, of_filter_map, of_flat_map, of_map, of_option, of_take, position_find}
 use Rattle.fly_faults.proofs.Distinct.{same_text, text_same}
+use Rattle.fly_faults.proofs.Runs.{run_of_edge}
 
 -- ---- ids
 
-same_id : (i j : Identifier) → is_same i j ≡ true → i ≡ j
+pub same_id : (i j : Identifier) → is_same i j ≡ true → i ≡ j
 same_id i j e =
     let p3 = and_parts (bytes_eq i.project j.project && bytes_eq i.domain j.domain && bytes_eq i.name j.name)
     (bytes_eq i.version j.version) e in
@@ -36,7 +37,7 @@ same_id i j e =
     let version = same_text i.version j.version p3.1 in
     λ k. record { project = project k; domain = domain k; name = name k; version = version k }
 
-id_same : (i j : Identifier) → i ≡ j → is_same i j ≡ true
+pub id_same : (i j : Identifier) → i ≡ j → is_same i j ≡ true
 id_same i j e =
     and_from _ _ (and_from _ _ (and_from _ _ (text_same i.project j.project (ap (λ (x : Identifier). x.project) e))
     (text_same i.domain j.domain (ap (λ (x : Identifier). x.domain) e)))
@@ -59,35 +60,15 @@ repeated_nothing list ids distinct =
     apart ids distinct place.0 at.0 at.1 place.1 (place.2 ∙ ap Some (sym (same_id at.1 y e)))
     (number_at ids at has)))))
 
-same_place : {X : Type 0} (xs : List X) (i j : ℕ) (x : X) → i ≡ j → slice_get xs i ≡ Some x → slice_get xs j ≡ Some x
-same_place xs i j x same there = subst (λ k. slice_get xs k ≡ Some x) same there
-
 -- ---- what is reached
 
 module _ (b : Bundle) where
-  -- an edge begins at the place of a workflow and ends at one
-  edge_ends : (u v : ℕ) → IsEdge (workflow_edges b) u v → ((w : Workflow) × (slice_get b.workflows u ≡ Some w))
-      × ((w : Workflow) × (slice_get b.workflows v ≡ Some w))
-  edge_ends u v edge =
-      let from = of_flat_map (λ (at : ℕ × Workflow). map (λ j. (at.0, j)) (run_places b at.1))
-      (enumerate_from 0 b.workflows) (u, v) edge in
-      let to = of_map (λ j. (from.0.0, j)) (run_places b from.0.1) (u, v) from.2 in
-      let start : from.0.0 ≡ u = ap (λ (p : ℕ × ℕ). p.0) to.2 in
-      let end : to.0 ≡ v = ap (λ (p : ℕ × ℕ). p.1) to.2 in
-      let run = of_filter_map (λ n. option_and_then (workflow_place b) (subworkflow_id n))
-      (nodes_of from.0.1) to.0 to.1 in
-      let id = and_then_some (workflow_place b) (subworkflow_id run.0) to.0 run.2 in
-      let found = position_find (λ (w : Workflow). is_same w.id id.0) b.workflows to.0 id.2 in (
-        (from.0.1, same_place b.workflows from.0.0 u from.0.1 start (number_at b.workflows from.0 from.1)),
-        (found.0, same_place b.workflows to.0 v found.0 end found.1),
-      )
-
   walk_starts : (u : ℕ) (between : List ℕ) (v : ℕ) → IsWalk (workflow_edges b) u between v
       → (w : Workflow) × (slice_get b.workflows u ≡ Some w)
-  walk_starts u [] v walk = (edge_ends u v walk).0
-  walk_starts u (x ∷ between) v walk = (edge_ends u x walk.0).0
+  walk_starts u [] v walk = let run = run_of_edge b u v walk in (run.workflow, run.from)
+  walk_starts u (x ∷ between) v walk = let run = run_of_edge b u x walk.0 in (run.workflow, run.from)
 
-  of_reached_places : (at : ℕ × Workflow) → Contains (reached_places b) at
+  pub of_reached_places : (at : ℕ × Workflow) → Contains (reached_places b) at
       → IsReachedPlace b at.0 × (slice_get b.workflows at.0 ≡ Some at.1)
   of_reached_places at has =
       let from =
@@ -106,7 +87,7 @@ module _ (b : Bundle) where
         number_at b.workflows at kept.0,
       )
 
-  in_reached_places : (place : ℕ) (w : Workflow) → IsReachedPlace b place → slice_get b.workflows place ≡ Some w
+  pub in_reached_places : (place : ℕ) (w : Workflow) → IsReachedPlace b place → slice_get b.workflows place ≡ Some w
       → Contains (reached_places b) (place, w)
   in_reached_places place w reached there =
       in_flat_map
