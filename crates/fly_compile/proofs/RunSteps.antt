@@ -1,5 +1,5 @@
 -- The faults of a bundle and of a run, by places; and the form of what is reached.
-use Rattle.std.proofs.Common.{◌≡◌, ℕ, ◌==◌, true, false, List, [], ◌∷◌, ◌++◌, map, filter, length, Contains, Some, None, refl, sym, ap, ◌∙◌, subst, arith}
+use Rattle.std.proofs.Common.{◌≡◌, ℕ, ◌==◌, true, false, List, [], ◌∷◌, map, filter, length, Contains, Some, None, refl, sym, ap, ◌∙◌, subst, arith}
 use Rattle.std.specs.List.{All, list_any, flat_map, enumerate_from}
 use Rattle.std.specs.Option.{option_map}
 use Rattle.std.specs.Borrow.{Bor}
@@ -12,9 +12,12 @@ use Rattle.fly_docs.specs.declared.names.Identifier.{Identifier}
 use Rattle.fly_docs.specs.declared.task.Task.{Task}
 use Rattle.fly_docs.specs.declared.workflow.Workflow.{Workflow}
 use Rattle.fly_docs.specs.declared.workflow.Bundle.{Bundle}
+use Rattle.fly_docs.specs.declared.closure.Closure.{Closure}
 use Rattle.fly_docs.specs.Closures.{closure_of, closure_with}
+use Rattle.fly_docs.specs.TypedClosures.{IsTypedClosure}
 use Rattle.fly_docs.specs.Form.{IsBundleInForm, IsWorkflowInForm, IsTaskInForm}
 use Rattle.fly_docs.specs.Reaching.{reached_places, reached_workflows, run_task_places, reached_tasks}
+use Rattle.fly_closures.specs.Laws.{ClosuresAreTyped}
 use Rattle.fly_links.specs.Directory.{repeated_places}
 use Rattle.fly_links.specs.Reach.{recursive_places}
 use Rattle.fly_faults.specs.declared.fault.Code.TheVariants as code
@@ -24,7 +27,7 @@ use Rattle.fly_faults.specs.FaultList.{is_repeated, repeated_faults, faults_of_w
 use Rattle.fly_faults.proofs.FaultListLaw.{no_faults_exactly_where_typed}
 use Rattle.fly_faults.proofs.Lists.{all_of, contains_at, in_map, map_none, number_at, of_map}
 use Rattle.fly_faults.proofs.Passes.{map-map}
-use Rattle.fly_faults.proofs.RunFaultLemmas.{of_reached_workflows, of_reached_tasks, reached_in}
+use Rattle.fly_faults.proofs.RunFaultLemmas.{of_reached_workflows, reached_in}
 
 -- ---- ids
 
@@ -101,3 +104,10 @@ pub has_closure : (b : Bundle) → IsBundleInForm b → faults_of b ≡ [] → c
 has_closure b form e none =
     let typed = ((no_faults_exactly_where_typed b form).0 e).0 in
     none_some (closure_with b typed.primary) (sym none ∙ ap (option_map (closure_with b)) typed.named)
+
+-- its closure's templates are typed and acyclic
+pub closure_is_typed : ClosuresAreTyped → (b : Bundle) → IsBundleInForm b → faults_of b ≡ [] → (c : Closure)
+    → closure_of b ≡ Some c → IsTypedClosure c
+closure_is_typed law b form e c is =
+    let both = (no_faults_exactly_where_typed b form).0 e in
+    law b c both.0 both.1 is

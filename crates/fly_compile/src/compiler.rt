@@ -9,6 +9,7 @@ use crate::bundle_faults::push_bundle_faults;
 use crate::run_faults::push_run_faults;
 use crate::workflow_faults::push_faults_of_workflow;
 use crate::{CompileFault, Fault};
+use fly_closures::closures_are_typed;
 use fly_docs::{Bundle, Closure, Task, Workflow};
 use fly_faults::push_template_faults;
 use fly_links::{Directory, Reach, closure_of};
@@ -77,7 +78,10 @@ pub fn compile(alloc: Global, bundle: &Bundle) -> Result<Closure, CompileFault>
         return Err(CompileFault::Refused(List::from_vec(faults)));
     }
     match closure_of(alloc, &directory, &reach)? {
-        Some(closure) => Ok(closure),
+        Some(closure) => {
+            closures_are_typed();
+            Ok(closure)
+        }
         None => unreachable!(),
     }
 }

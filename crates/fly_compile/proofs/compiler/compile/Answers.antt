@@ -1,7 +1,7 @@
-use Rattle.std.proofs.Common.{◌≡◌, [], ◌∙◌, ap, sym, arith, vec_len}
+use Rattle.std.proofs.Common.{◌≡◌, [], Some, ◌∙◌, ap, sym, arith, vec_len}
 use Rattle.fly_docs.specs.Closures.{closure_of}
 use Rattle.fly_faults.specs.FaultList.{faults_of}
-use Rattle.fly_compile.proofs.RunSteps.{has_closure, no_items}
+use Rattle.fly_compile.proofs.RunSteps.{has_closure, closure_is_typed, no_items}
 use Rattle.fly_compile.proofs.compiler.compile.Goals as goal
 
 pub unreachable-requires : goal.unreachable-requires
@@ -15,8 +15,11 @@ unreachable-requires c =
 
 pub returns : goal.returns
 returns c =
-    let faults = c.in_ok-faults.faults in (
-      sym (c.in_ok-faults.ensures ∙ ap faults_of c.in_ok-directory.ensures)
-          ∙ no_items faults.items (vec_len faults) (omega (arith, faults.ok.0)) (sym c.is_empty.ensures ∙ c.if-not-is_empty.false),
-      sym (ap closure_of c.in_ok-directory.ensures) ∙ sym c.in_ok-closure.ensures ∙ c.in-Some.is,
-    )
+    let faults = c.in_ok-faults.faults in
+    let b = c.args.bundle.now in
+    let none : faults_of b ≡ [] =
+    sym (c.in_ok-faults.ensures ∙ ap faults_of c.in_ok-directory.ensures)
+    ∙ no_items faults.items (vec_len faults) (omega (arith, faults.ok.0)) (sym c.is_empty.ensures ∙ c.if-not-is_empty.false) in
+    let closure : closure_of b ≡ Some c.in-Some.closure =
+    sym (ap closure_of c.in_ok-directory.ensures) ∙ sym c.in_ok-closure.ensures ∙ c.in-Some.is in
+    (none, closure, closure_is_typed c.closures_are_typed.ensures b c.requires none c.in-Some.closure closure)
