@@ -401,6 +401,38 @@ impl Catalog {
         }
     }
 
+    /// What an owner that asks for the word would be answered. Nothing changes.
+    pub fn grant(
+        &self,
+        alloc: Global,
+        d: &DatasetId,
+        tag: &Text,
+        owner: &Text,
+        moment: i64,
+        heartbeat_ms: i64,
+    ) -> Result<Grant, NoMemory>
+        requires moment { moment ≤ℤ pos (2 ^ 62) }
+        requires heartbeat { pos 0 ≤ℤ heartbeat_ms }
+        ensures { IfOk result (λ g. g ≡ grant_of self.now d.now tag.now owner.now moment heartbeat_ms) }
+    {
+        match self.bar(d, tag, owner, moment) {
+            Some(bar) => Ok(Grant::HeldBy {
+                owner: bar.owner.copy(alloc)?,
+                expiry: bar.expiry,
+            }),
+            None => Ok(Grant::Granted {
+                expiry: lease_end(moment, heartbeat_ms),
+            }),
+        }
+    }
+
+    /// How many reservations have an owner that has ended. Takes no memory.
+    pub fn ended_count<T: OwnerTest>(&self, test: &T) -> usize
+        ensures { result ≡ count_by (λ r. T.ends test.now r.owner) self.now.reservations }
+    {
+        self.reservations.ended_count(test)
+    }
+
     /// Gives an owner the word that it makes the artifact of a tag, for three heartbeats, or says who has that word. A
     /// heartbeat counts for 10 seconds at most; both times are in milliseconds.
     pub fn get_or_extend(

@@ -1,8 +1,8 @@
 //! The reservations that are held, in the order in which they were granted.
-ghost use Rattle.std.specs.Prelude.{◌≡◌, ◌⊎◌, ℕ, IfOk, IfSome, OnOk, OnErr, Some, None, [], IsSome, not, filter, if◌then◌else◌, option_and_then};
+ghost use Rattle.std.specs.Prelude.{◌≡◌, ◌⊎◌, ℕ, IfOk, IfSome, OnOk, OnErr, Some, None, [], IsSome, not, filter, if◌then◌else◌, option_and_then, count_by};
 ghost use Rattle.std.specs.Option.{option_copied};
 ghost use Rattle.std.specs.Ordering.{nat_cmp};
-ghost use Rattle.std.specs.BTreeMap.{get, IsEmpty, IsOrdered, IsUnchanged, Updates, insert_entry};
+ghost use Rattle.std.specs.BTreeMap.{get, values, IsEmpty, IsOrdered, IsUnchanged, Updates, insert_entry};
 ghost use Rattle.fly_catalog.specs.declared.parts.Reservation as reservation;
 ghost use Rattle.fly_catalog.specs.Catalog.{item_cmp};
 ghost use Rattle.fly_catalog.specs.Reservations.{reservation_at, is_holder, Promises, MayPromise, without_key};
@@ -130,6 +130,16 @@ impl Reservations {
     {
         self.live
             .retain(|_serial, reservation| !test.ends(&reservation.owner));
+    }
+
+    /// How many have an owner that has ended.
+    pub fn ended_count<T: OwnerTest>(&self, test: &T) -> usize
+        ensures { result ≡ count_by (λ r. T.ends test.now r.owner) (values self.now.live) }
+    {
+        self.live
+            .values()
+            .filter(|reservation| test.ends(&reservation.owner))
+            .count()
     }
 
     fn is_holder(&self, key: &ItemKey, owner: &Text) -> bool
