@@ -1,0 +1,5 @@
+pub mod LaunchLemmas
+pub mod ListLemmas
+pub mod NameLemmas
+pub mod NamedLemmas
+pub mod TableLemmas

@@ -1,0 +1,4 @@
+pub mod Attempts
+pub mod Launches
+pub mod Parts
+pub mod Tables
