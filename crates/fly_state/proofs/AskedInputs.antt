@@ -1,34 +1,32 @@
 -- The inputs of a slot that may be asked for are known.
-use Rattle.std.proofs.Common.{◌≡◌, ◌≢◌, ℕ, ◌<◌, Bool, true, false, not, ◌||◌, ◌&&◌, cond, if◌then◌else◌, List, [], ◌∷◌, map, flat_map, filter_map, length, find, get_or, bytes_eq, Contains, Option, Some, None, Result, Ok, Err, is_some, option_map, option_and_then, option_to_list, IfSome, IsTrue, refl, sym, ◌∙◌, ap, subst, arith, append-nil, ⊎_elim, ◌⊎◌, inl, inr}
-use Rattle.std.specs.List.{slice_get, list_all, list_any}
+use Rattle.std.proofs.Common.{◌≡◌, ◌≢◌, ℕ, ◌<◌, Bool, true, false, ◌||◌, cond, if◌then◌else◌, List, [], ◌∷◌, map, flat_map, length, find, get_or, bytes_eq, Contains, Option, Some, None, is_some, option_map, option_and_then, option_to_list, IfSome, IsTrue, refl, sym, ◌∙◌, ap, subst, arith, append-nil, ⊎_elim, ◌⊎◌, inl, inr}
+use Rattle.std.specs.List.{slice_get, list_any}
 use Rattle.std.specs.Prelude.{nat_lt}
 use Rattle.std.proofs.lemmas.Bool.{cases_Bool, false≢true, le-ltb, or_cases, or_left, or_right, and_parts}
 use Rattle.std.proofs.lemmas.List.Elements.{All-get_or}
 use Rattle.std.proofs.lemmas.List.Sorted.{Contains-permutation, IsPermutation-sym}
-use Rattle.std.proofs.lemmas.Option.{none-some, same_Some, slice_get_cases, slice_get_within, get_or_from_slice_get}
+use Rattle.std.proofs.lemmas.Option.{none-some, same_Some, slice_get_within, get_or_from_slice_get}
 use Rattle.std.proofs.lemmas.Slice.Eq.{bytes_eq-Decides}
 use Rattle.fly_types.specs.declared.text.Text.{Text}
 use Rattle.fly_types.specs.declared.kinds.LiteralType.{LiteralType}
-use Rattle.fly_types.specs.declared.literals.Literal.{Literal}
 use Rattle.fly_types.specs.declared.literals.LiteralMap.{LiteralMap}
 use Rattle.fly_types.specs.declared.variable.Variable.{Variable}
 use Rattle.fly_policy.specs.Outcome.{AreOutputs}
 use Rattle.fly_docs.specs.declared.binding.Binding.{Binding}
 use Rattle.fly_docs.specs.declared.names.Identifier.{Identifier}
 use Rattle.fly_docs.specs.declared.node.Node.{Node}
-use Rattle.fly_docs.specs.declared.node.Case.{Case}
-use Rattle.fly_docs.specs.declared.node.Target.{Target, out-Target}
+use Rattle.fly_docs.specs.declared.node.Target.{out-Target}
 use Rattle.fly_docs.specs.declared.node.Target.TheOpen.{Target-F}
 use Rattle.fly_docs.specs.declared.task.Task.{Task}
 use Rattle.fly_docs.specs.declared.workflow.Workflow.{Workflow}
-use Rattle.fly_docs.specs.Bindings.{Promised, promises_of, sources_of, binding_of}
+use Rattle.fly_docs.specs.Bindings.{Promised, promises_of, sources_of}
 use Rattle.fly_docs.specs.Fitting.{bound_fits}
 use Rattle.fly_docs.specs.Interfaces.{names_of, bound_names, type_of}
 use Rattle.fly_docs.specs.Lookups.{task_named}
 use Rattle.fly_docs.specs.Names.{start_node}
-use Rattle.fly_docs.specs.NodeInterfaces.{Source, of_type, of_anything, no_node, no_variable, Found, outputs_of, outputs_by, inputs_of, inputs_by, source_in, source_by, source_of}
+use Rattle.fly_docs.specs.NodeInterfaces.{Source, of_type, of_anything, no_node, no_variable, Found, outputs_of, inputs_of, inputs_by, source_in, source_by, source_of}
 use Rattle.fly_docs.specs.Plans.{PlanNode, nodes_of, is_array, is_array_target}
-use Rattle.fly_docs.specs.SlotInputs.{Known, Taken, node_inputs, plain_inputs, or_unknown, literal_named, known_literal, variable_value, values_of, bound_value}
+use Rattle.fly_docs.specs.SlotInputs.{Known, node_inputs, plain_inputs, or_unknown, literal_named, variable_value, values_of, bound_value}
 use Rattle.fly_docs.specs.Typed.{IsTypedNode, IsTypedPlain, IsTypedTarget}
 use Rattle.fly_docs.proofs.NodeLemmas.{outputs_of-task}
 use Rattle.fly_rules.proofs.GroundLemmas.{Contains-map, Contains-flat_map}
@@ -36,20 +34,19 @@ use Rattle.fly_state.specs.declared.moves.At.{At}
 use Rattle.fly_state.specs.declared.slots.SlotState.{SlotState}
 use Rattle.fly_state.specs.declared.slots.NodeState.{NodeState}
 use Rattle.fly_state.specs.declared.slots.ExecState.{ExecState}
-use Rattle.fly_state.specs.Moves.{is_ready, is_going_on}
-use Rattle.fly_state.specs.OfPlan.{IsOfPlan, IsNodeOfPlan, promised_numbers, has_sources, has_items, has_asked_inputs, is_aborted, may_ask_inputs, may_ask_inputs_at, output_variables}
+use Rattle.fly_state.specs.OfPlan.{IsOfPlan, promised_numbers, has_items, may_ask_inputs, may_ask_inputs_at, output_variables}
 use Rattle.fly_state.specs.Origins.{source_in_run}
 use Rattle.fly_state.specs.PlanTables.{IsOuterPlan, outer_node}
 use Rattle.fly_state.specs.Inputs.{inputs_at, inputs_of_node}
 use Rattle.fly_state.specs.Plans.{RunPlan, number_in, node_numbered, task_of, task_target}
-use Rattle.fly_state.specs.States.{node_state, own_state, phase_of, is_succeeded, is_skipped, is_not_yet_started, outputs_in, known_in}
+use Rattle.fly_state.specs.States.{node_state, own_state, phase_of, is_succeeded, outputs_in, known_in}
 use Rattle.fly_state.specs.Values.{FitVariables}
 use Rattle.fly_cast.specs.Conversion.{each_result}
 use Rattle.fly_graph.proofs.Members.{Contains-nil, Contains-cons_cases}
 use Rattle.fly_state.proofs.Lists.{of_map, in_filter_map, later_in}
 use Rattle.fly_state.proofs.NotUnknown.{IsClear, IsKnownPromise, clear-map, clear-each, clear-value, passes}
 use Rattle.fly_state.proofs.OuterPlans.{numbered-outer}
-use Rattle.fly_state.proofs.OuterTypes.{gives-named, kinds-in, source-plain, source-chosen, chosen, known-start, known-node, outputs-typed}
+use Rattle.fly_state.proofs.OuterTypes.{gives-named, kinds-in, source-plain, source-chosen, chosen, known-start, known-node}
 use Rattle.fly_state.proofs.PlanLemmas.{IsTaskNode, task_layer, nodes_of-plain}
 use Rattle.fly_state.proofs.TakenLemmas.{variable-bound}
 
@@ -67,7 +64,7 @@ pub record AskedNode (plan : RunPlan) (w : Workflow) (s : ExecState) (i : ℕ) :
 
 -- ---- what is found
 
-found-in : {X : Type 0} (p : X → Bool) (xs : List X) (x : X) → find p xs ≡ Some x → Contains xs x × (p x ≡ true)
+pub found-in : {X : Type 0} (p : X → Bool) (xs : List X) (x : X) → find p xs ≡ Some x → Contains xs x × (p x ≡ true)
 found-in p [] x e = absurd (none-some x e)
 found-in p (y ∷ ys) x e =
     ⊎_elim (λ yes.
@@ -77,7 +74,7 @@ found-in p (y ∷ ys) x e =
     (cases_Bool (p y))
 
 -- something is found where an element passes
-found-one : {X : Type 0} (p : X → Bool) (xs : List X) (x : X) → Contains xs x → p x ≡ true → (y : X) × (find p xs ≡ Some y)
+pub found-one : {X : Type 0} (p : X → Bool) (xs : List X) (x : X) → Contains xs x → p x ≡ true → (y : X) × (find p xs ≡ Some y)
 found-one p [] x has e = absurd (Contains-nil x has)
 found-one p (y ∷ ys) x has e =
     ⊎_elim (λ yes. (y, ap (λ b. cond b (Some y) (find p ys)) yes))
@@ -98,7 +95,7 @@ some-from : {X Y : Type 0} (f : X → Y) (o : Option X) (y : Y) → option_map f
 some-from f None y e = absurd (none-some y e)
 some-from f (Some x) y e = (x, refl)
 
-some-there : {X : Type 0} (o : Option X) → is_some o ≡ true → (x : X) × (o ≡ Some x)
+pub some-there : {X : Type 0} (o : Option X) → is_some o ≡ true → (x : X) × (o ≡ Some x)
 some-there None e = absurd (false≢true e)
 some-there (Some x) e = (x, refl)
 
@@ -137,7 +134,7 @@ module _ (plan : RunPlan) (w : Workflow) (outer : IsOuterPlan plan w) where
         outputs_of-task plan.documents n task.0 task.2 ∙ ap (option_map (λ (t : Task). t.interface.outputs)) task.3,
       )
 
-  sources-same : source_in_run plan ≡ source_of plan.documents w
+  pub sources-same : source_in_run plan ≡ source_of plan.documents w
   sources-same = λ i promise. source-plain plan w outer promise i
 
   pub fit-variables : (i : ℕ) (n : Node) → slice_get w.nodes i ≡ Some n → (variables : List Variable) → inputs_of plan.documents n ≡ Some variables
@@ -149,6 +146,30 @@ module _ (plan : RunPlan) (w : Workflow) (outer : IsOuterPlan plan w) where
       let name : x.var ≡ v.name = (bytes_eq-Decides x.var v.name).0 binding.1 in
       subst (λ (source : Promised → Source). IsTrue (bound_fits source x.bound v.kind)) (sym sources-same)
       (typed.bound.fits v x (subst (λ vs. Contains vs v) (sym same) has) binding.0 name)
+
+  -- the inputs of a task node are those that its bindings give
+  pub node-inputs : (n : Node) (id : Identifier) (variables : List Variable) (known : Known)
+      → out-Target n.target ≡ Target-F.Task id → inputs_of plan.documents n ≡ Some variables
+      → node_inputs plan.documents w known n ≡ plain_inputs (source_of plan.documents w) known variables n.inputs
+  node-inputs n id variables known layer found = rw (found, layer) refl
+
+  -- what a node runs, and what it takes
+  pub task-inputs : (s : ExecState) (i : ℕ) (n : Node) → slice_get w.nodes i ≡ Some n
+      → (t : Task) × (task_of plan (outer_node w (i, n)) ≡ Some t)
+      × (inputs_of plan.documents n ≡ Some t.interface.inputs)
+      × (inputs_of_node plan s (outer_node w (i, n)) None
+      ≡ values_of (bound_value (source_in_run plan) (known_in plan s [])) t.interface.inputs n.inputs)
+  task-inputs s i n there =
+      let task = task-there i n there in
+      let variables = task.1.interface.inputs in
+      let found : inputs_of plan.documents n ≡ Some variables =
+      ap (inputs_by plan.documents) task.2 ∙ ap (option_map (λ (t : Task). t.interface.inputs)) task.3 in (
+        task.1,
+        ap (task_target plan.documents) task.2 ∙ task.3,
+        found,
+        node-inputs n task.0 variables (known_in plan s []) task.2 found
+            ∙ ap (λ source. values_of (bound_value source (known_in plan s [])) variables n.inputs) (sym sources-same),
+      )
 
   module _ (s : ExecState) (of_plan : IsOfPlan plan s) where
     -- ---- what is promised
@@ -270,11 +291,6 @@ module _ (plan : RunPlan) (w : Workflow) (outer : IsOuterPlan plan w) where
 
     -- ---- a node whose inputs are asked for
 
-    node-inputs : (n : Node) (id : Identifier) (variables : List Variable) (known : Known) → out-Target n.target ≡ Target-F.Task id
-        → inputs_of plan.documents n ≡ Some variables
-        → node_inputs plan.documents w known n ≡ plain_inputs (source_of plan.documents w) known variables n.inputs
-    node-inputs n id variables known layer found = rw (found, layer) refl
-
     asked-inputs : (i : ℕ) (p : PlanNode) → node_numbered plan i ≡ Some p
         → inputs_at plan s (record { node = Some i; item = None }) ≡ inputs_of_node plan s p None
     asked-inputs i p planned = rw planned refl
@@ -292,24 +308,18 @@ module _ (plan : RunPlan) (w : Workflow) (outer : IsOuterPlan plan w) where
             absurd (false≢true (sym (ap (λ o. list_any (may_ask_inputs plan s i) (option_to_list o)) none) ∙ asked))
         by (Some n) there =
             let planned = numbered-outer plan w outer i ∙ ap (option_map (λ m. outer_node w (i, m))) there in
-            let task = task-there i n there in
-            let variables = task.1.interface.inputs in
-            let found : inputs_of plan.documents n ≡ Some variables =
-            ap (inputs_by plan.documents) task.2 ∙ ap (option_map (λ (t : Task). t.interface.inputs)) task.3 in
+            let task = task-inputs s i n there in
             let may : may_ask_inputs plan s i (outer_node w (i, n)) ≡ true =
             or_last (may_ask_inputs plan s i (outer_node w (i, n))) (sym (ap (λ o. list_any (may_ask_inputs plan s i) (option_to_list o)) planned) ∙ asked) in
             record {
               node = n;
-              task = task.1;
+              task = task.0;
               small = slice_get_within plan.nodes i (outer_node w (i, n)) planned;
               planned = planned;
-              runs = ap (option_and_then (task_of plan)) planned ∙ ap (task_target plan.documents) task.2 ∙ task.3;
-              fit = fit-variables i n there variables found;
-              wanted =
-                  asked-inputs i (outer_node w (i, n)) planned
-                  ∙ node-inputs n task.0 variables (known_in plan s []) task.2 found
-                  ∙ ap (λ source. values_of (bound_value source (known_in plan s [])) variables n.inputs) (sym sources-same);
-              clear = clear-inputs i n there may variables found;
+              runs = ap (option_and_then (task_of plan)) planned ∙ task.1;
+              fit = fit-variables i n there task.0.interface.inputs task.2;
+              wanted = asked-inputs i (outer_node w (i, n)) planned ∙ task.3;
+              clear = clear-inputs i n there may task.0.interface.inputs task.2;
             }
 
     -- ---- slots that have none, and answers

@@ -26,19 +26,19 @@ use Rattle.fly_state.specs.Laws.{slot_at}
 
 -- ---- what is there
 
-where_true-test : {X : Type 0} (b : Bool) (o : Option X) (y : X) → where_true b o ≡ Some y → b ≡ true
+pub where_true-test : {X : Type 0} (b : Bool) (o : Option X) (y : X) → where_true b o ≡ Some y → b ≡ true
 where_true-test true o y e = refl
 where_true-test false o y e = absurd (none-some y e)
 
-where_true-there : {X : Type 0} (b : Bool) (o : Option X) (y : X) → where_true b o ≡ Some y → o ≡ Some y
+pub where_true-there : {X : Type 0} (b : Bool) (o : Option X) (y : X) → where_true b o ≡ Some y → o ≡ Some y
 where_true-there true o y e = e
 where_true-there false o y e = absurd (none-some y e)
 
-option_map-there : {X Y : Type 0} (f : X → Y) (o : Option X) (y : Y) → option_map f o ≡ Some y → (x : X) × (o ≡ Some x)
+pub option_map-there : {X Y : Type 0} (f : X → Y) (o : Option X) (y : Y) → option_map f o ≡ Some y → (x : X) × (o ≡ Some x)
 option_map-there f None y e = absurd (none-some y e)
 option_map-there f (Some x) y e = (x, refl)
 
-option_and_then-there : {X Y : Type 0} (f : X → Option Y) (o : Option X) (y : Y) → option_and_then f o ≡ Some y
+pub option_and_then-there : {X Y : Type 0} (f : X → Option Y) (o : Option X) (y : Y) → option_and_then f o ≡ Some y
     → (x : X) × (o ≡ Some x) × (f x ≡ Some y)
 option_and_then-there f None y e = absurd (none-some y e)
 option_and_then-there f (Some x) y e = (x, refl, e)
@@ -160,10 +160,10 @@ aborted-not_final slot x h =
     not-true (is_final slot.phase) (where_true-test (not (is_final slot.phase)) (Some (record slot { phase = phase.Aborted })) x h)
 
 -- the slot that a step makes
-effect-slot : (o : Option SlotState) (e : Effect) → option_map of_slot o ≡ Some e → (x : SlotState) × (o ≡ Some x)
+pub effect-slot : (o : Option SlotState) (e : Effect) → option_map of_slot o ≡ Some e → (x : SlotState) × (o ≡ Some x)
 effect-slot o e h = option_map-there of_slot o e h
 
-node_effect-not_final : (plan : RunPlan) (v : View) (entries : List Entry) (i : ℕ) (p : PlanNode) (st : Step) (e : Effect)
+pub node_effect-not_final : (plan : RunPlan) (v : View) (entries : List Entry) (i : ℕ) (p : PlanNode) (st : Step) (e : Effect)
     → node_effect plan v entries i p st ≡ Some e → is_final (phase_of v.state i) ≡ false
 node_effect-not_final plan v entries i p step.Begin e h =
     let x = effect-slot (begun_slot plan v.state i p) e h in begun-not_final plan v.state i p x.0 x.1

@@ -4,6 +4,8 @@ pub mod NameLemmas
 pub mod PlaceLemmas
 pub mod Loops
 pub mod Lists
+pub mod Ranges
+pub mod Founds
 pub mod KeyLemmas
 pub mod LookLemmas
 pub mod PlanLemmas
@@ -18,3 +20,17 @@ pub mod TakenLemmas
 pub mod OuterTypes
 pub mod NotUnknown
 pub mod AskedInputs
+pub mod ConvertLemmas
+pub mod TakingLemmas
+pub mod SettledLemmas
+pub mod ReadyLemmas
+pub mod MoveLemmas
+pub mod TaskNodes
+pub mod TakenTypes
+pub mod KnownMore
+pub mod OuterNodes
+pub mod OuterSteps
+pub mod OuterRounds
+pub mod FirstStates
+pub mod EffectLemmas
+pub mod EffectNodes

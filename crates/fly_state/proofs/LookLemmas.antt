@@ -17,13 +17,15 @@ use Rattle.fly_docs.specs.Bindings.{Promised, promises_by, promises_of, sources_
 use Rattle.fly_state.specs.Looks.{promised_ids, places_among}
 use Rattle.fly_state.proofs.Loops.{more}
 
-map-flat_map : {X A B : Type 0} (g : A → B) (f : X → List A) (xs : List X) → map g (flat_map f xs) ≡ flat_map (λ x. map g (f x)) xs
+map-flat_map : {X A B : Type 0} (g : A → B) (f : X → List A) (xs : List X)
+    → map g (flat_map f xs) ≡ flat_map (λ x. map g (f x)) xs
 map-flat_map g f [] = refl
 map-flat_map g f (x ∷ xs) = map-append g (f x) (flat_map f xs) ∙ ap (λ r. map g (f x) ++ r) (map-flat_map g f xs)
 
 promises-Collection : (es : List Bound) → promises_of (bound.Collection es) ≡ flat_map promises_of es
 promises-Collection es =
-    ap promises_of (sym (view.rolls-Collection es)) ∙ fold-roll-Bound (List Promised) promises_by (Bound-F.Collection es)
+    ap promises_of (sym (view.rolls-Collection es))
+    ∙ fold-roll-Bound (List Promised) promises_by (Bound-F.Collection es)
     ∙ flat_map-map (λ promises. promises) promises_of es
 
 promises-Map : (es : List (Text × Bound)) → promises_of (bound.Map es) ≡ flat_map (λ e. promises_of e.1) es
@@ -34,37 +36,51 @@ promises-Map es =
 abbrev id_of : Promised → Text
 id_of promise = promise.0
 
+pub ids-collection : (x : Bound) (es es' : List Bound) → x ≡ bound.Collection es → es' ≡ es
+    → flat_map promised_ids es' ≡ promised_ids x
+ids-collection x es es' is same =
+    ap (flat_map promised_ids) same
+    ∙ sym (map-flat_map id_of promises_of es)
+    ∙ ap (map id_of) (sym (promises-Collection es)) ∙ ap promised_ids (sym is)
+
+pub ids-map : (x : Bound) (es es' : List (Text × Bound)) → x ≡ bound.Map es → es' ≡ es
+    → flat_map (λ (e : Text × Bound). promised_ids e.1) es' ≡ promised_ids x
+ids-map x es es' is same =
+    ap (flat_map (λ (e : Text × Bound). promised_ids e.1)) same
+    ∙ sym (map-flat_map id_of (λ (e : Text × Bound). promises_of e.1) es)
+    ∙ ap (map id_of) (sym (promises-Map es)) ∙ ap promised_ids (sym is)
+
 module _ (place : Text → Option ℕ) where
   abbrev not_start : Text → Bool
   not_start id = not (bytes_eq id start_node)
 
-  pub among-append : (xs ys : List Text) → places_among place (xs ++ ys) ≡ places_among place xs ++ places_among place ys
+  pub among-append : (xs ys : List Text)
+      → places_among place (xs ++ ys) ≡ places_among place xs ++ places_among place ys
   among-append xs ys =
-      ap (filter_map place) (filter-append not_start xs ys) ∙ filter_map-append place (filter not_start xs) (filter not_start ys)
+      ap (filter_map place) (filter-append not_start xs ys)
+      ∙ filter_map-append place (filter not_start xs) (filter not_start ys)
 
-  among-flat_map : {X : Type 0} (f : X → List Text) (xs : List X) → places_among place (flat_map f xs) ≡ flat_map (λ x. places_among place (f x)) xs
+  among-flat_map : {X : Type 0} (f : X → List Text) (xs : List X)
+      → places_among place (flat_map f xs) ≡ flat_map (λ x. places_among place (f x)) xs
   among-flat_map f [] = refl
-  among-flat_map f (x ∷ xs) = among-append (f x) (flat_map f xs) ∙ ap (λ r. places_among place (f x) ++ r) (among-flat_map f xs)
+  among-flat_map f (x ∷ xs) =
+      among-append (f x) (flat_map f xs) ∙ ap (λ r. places_among place (f x) ++ r) (among-flat_map f xs)
 
   pub among-collection : (x : Bound) (es es' : List Bound) → x ≡ bound.Collection es → es' ≡ es
       → flat_map (λ e. places_among place (promised_ids e)) es' ≡ places_among place (promised_ids x)
   among-collection x es es' is same =
-      ap (flat_map (λ e. places_among place (promised_ids e))) same
-      ∙ sym (among-flat_map promised_ids es)
-      ∙ ap (places_among place) (sym (map-flat_map id_of promises_of es) ∙ ap (map id_of) (sym (promises-Collection es)))
-      ∙ ap (λ y. places_among place (promised_ids y)) (sym is)
+      sym (among-flat_map promised_ids es') ∙ ap (places_among place) (ids-collection x es es' is same)
 
   pub among-map : (x : Bound) (es es' : List (Text × Bound)) → x ≡ bound.Map es → es' ≡ es
       → flat_map (λ e. places_among place (promised_ids e.1)) es' ≡ places_among place (promised_ids x)
   among-map x es es' is same =
-      ap (flat_map (λ (e : Text × Bound). places_among place (promised_ids e.1))) same
-      ∙ sym (among-flat_map (λ (e : Text × Bound). promised_ids e.1) es)
-      ∙ ap (places_among place) (sym (map-flat_map id_of (λ (e : Text × Bound). promises_of e.1) es) ∙ ap (map id_of) (sym (promises-Map es)))
-      ∙ ap (λ y. places_among place (promised_ids y)) (sym is)
+      sym (among-flat_map (λ (e : Text × Bound). promised_ids e.1) es')
+      ∙ ap (places_among place) (ids-map x es es' is same)
 
   -- one binding more, and one id more
   pub sources-more : (xs : List Binding) (i : ℕ) (x : Binding) → i < length xs → x ≡ get_or xs i x
-      → places_among place (sources_of (take (i + 1) xs)) ≡ places_among place (sources_of (take i xs)) ++ places_among place (promised_ids x.bound)
+      → places_among place (sources_of (take (i + 1) xs))
+      ≡ places_among place (sources_of (take i xs)) ++ places_among place (promised_ids x.bound)
   sources-more xs i x lt is =
       ap (λ ys. places_among place (sources_of ys)) (more xs i x lt is)
       ∙ ap (places_among place) (flat_map-append (λ (y : Binding). promised_ids y.bound) (take i xs) (x ∷ [])

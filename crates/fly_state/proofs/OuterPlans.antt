@@ -1,5 +1,5 @@
 -- Plans of task nodes in one workflow: which nodes are in the run's own instance, and when it is broken.
-use Rattle.std.proofs.Common.{◌≡◌, ℕ, zero, suc, ◌+◌, ◌<◌, ◌≤◌, Bool, true, false, not, ◌&&◌, ◌||◌, cond, List, [], ◌∷◌, map, filter, length, position, Option, Some, None, option_map, option_and_then, refl, sym, ◌∙◌, ap, subst, arith, ⊎_elim}
+use Rattle.std.proofs.Common.{◌≡◌, ℕ, ◌+◌, ◌<◌, Bool, true, false, not, ◌&&◌, ◌||◌, List, [], ◌∷◌, map, filter, length, position, Option, Some, None, option_map, option_and_then, refl, sym, ◌∙◌, ap, subst, arith, ⊎_elim}
 use Rattle.std.specs.List.{slice_get, enumerate_from, range_with_len, list_any, list_all}
 use Rattle.std.proofs.lemmas.List.{length-map}
 use Rattle.std.proofs.lemmas.List.FromFn.{length-enumerate_from}
@@ -10,6 +10,7 @@ use Rattle.fly_docs.specs.declared.workflow.Workflow.{Workflow}
 use Rattle.fly_docs.specs.Plans.{PlanNode}
 use Rattle.fly_state.specs.declared.slots.ExecState.{ExecState}
 use Rattle.fly_state.specs.Moves.{has_failure, is_going_on}
+use Rattle.fly_state.specs.OfPlan.{was_begun, is_begun}
 use Rattle.fly_state.specs.PlanTables.{IsOuterPlan, outer_node}
 use Rattle.fly_state.specs.Plans.{RunPlan, same_path, node_numbered, instance_of, nodes_in, is_case_of, case_of, case_of_at}
 use Rattle.fly_state.specs.States.{phase_of, is_failure, is_running, is_within, is_breaking, is_broken}
@@ -55,10 +56,11 @@ breaks-outer w s k place [] = sym (none (not w.fail_late))
 breaks-outer w s k place (n ∷ nodes) =
     spread (not w.fail_late) (is_failure (phase_of s k)) _ _ (breaks-outer w s (k + 1) (place + 1) nodes)
 
-goes-outer : (w : Workflow) (s : ExecState) (k place : ℕ) (nodes : List Node)
-    → list_all (λ (at : ℕ × PlanNode). not (is_within [] at.1.path) || is_running (phase_of s at.0)) (enumerate_from k (outer_nodes w place nodes)) ≡ true
-goes-outer w s k place [] = refl
-goes-outer w s k place (n ∷ nodes) = goes-outer w s (k + 1) (place + 1) nodes
+-- no workflow node stands around the run's own instance
+around-outer : (w : Workflow) (f : ℕ → Bool) (k place : ℕ) (nodes : List Node)
+    → list_all (λ (at : ℕ × PlanNode). not (is_within [] at.1.path) || f at.0) (enumerate_from k (outer_nodes w place nodes)) ≡ true
+around-outer w f k place [] = refl
+around-outer w f k place (n ∷ nodes) = around-outer w f (k + 1) (place + 1) nodes
 
 module _ (plan : RunPlan) (w : Workflow) (outer : IsOuterPlan plan w) where
   pub nodes_in-outer : nodes_in plan [] ≡ enumerate_from 0 plan.nodes
@@ -83,10 +85,16 @@ module _ (plan : RunPlan) (w : Workflow) (outer : IsOuterPlan plan w) where
       ∙ ap (λ ats. not w.fail_late && list_any (λ (at : ℕ × PlanNode). is_failure (phase_of s at.0)) ats)
       (ap (enumerate_from 0) (sym outer.nodes_are) ∙ sym nodes_in-outer)
 
+  around-own : (f : ℕ → Bool) → list_all (λ (at : ℕ × PlanNode). not (is_within [] at.1.path) || f at.0) (enumerate_from 0 plan.nodes) ≡ true
+  around-own f =
+      ap (λ ps. list_all (λ (at : ℕ × PlanNode). not (is_within [] at.1.path) || f at.0) (enumerate_from 0 ps)) outer.nodes_are
+      ∙ around-outer w f 0 0 w.nodes
+
   pub going_on-outer : (s : ExecState) → is_going_on plan s [] ≡ true
-  going_on-outer s =
-      ap (λ ps. list_all (λ (at : ℕ × PlanNode). not (is_within [] at.1.path) || is_running (phase_of s at.0)) (enumerate_from 0 ps)) outer.nodes_are
-      ∙ goes-outer w s 0 0 w.nodes
+  going_on-outer s = around-own (λ i. is_running (phase_of s i))
+
+  pub begun-outer : (s : ExecState) → is_begun plan s [] ≡ true
+  begun-outer s = around-own (was_begun s)
 
   pub case-none : (p : PlanNode) → case_of plan p ≡ None
   case-none p =

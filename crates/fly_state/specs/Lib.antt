@@ -6,9 +6,14 @@ pub mod PlanTables
 pub mod States
 pub mod Standing
 pub mod Origins
+pub mod Converts
+pub mod Checks
+pub mod Closing
 pub mod Values
 pub mod Inputs
 pub mod Moves
+pub mod NodeSlots
+pub mod Effects
 pub mod Rounds
 pub mod OfPlan
 pub mod Laws

@@ -37,6 +37,7 @@ use Rattle.fly_state.specs.declared.moves.At.{At}
 use Rattle.fly_state.specs.declared.moves.Move.{Move}
 use Rattle.fly_state.specs.declared.moves.Step.{Step}
 use Rattle.fly_state.specs.declared.moves.Step.TheVariants as step
+pub use Rattle.fly_state.specs.declared.effects.Effect.{Effect}
 use Rattle.fly_state.specs.declared.entries.Entry.{Entry}
 use Rattle.fly_state.specs.declared.entries.Op.{Op}
 use Rattle.fly_state.specs.declared.entries.Op.TheVariants as op
@@ -50,11 +51,7 @@ use Rattle.fly_rules.specs.Standing.{is_ready_standing, is_skipped_standing}
 use Rattle.fly_state.specs.Standing.{standing_of, is_at_rest, is_settled}
 use Rattle.fly_state.specs.Inputs.{inputs_of_node, value_in, fault_code, count_of_items, choice_of}
 
--- What a move makes of its slot, and of the items in it, which it mostly leaves as they are.
-pub record Effect : Type 0 where
-  pub slot : SlotState
-  pub items : Option (List SlotState)
-
+-- the effect of a move that leaves the items of its slot as they are
 abbrev pub of_slot : SlotState → Effect
 of_slot slot = record { slot = slot; items = None }
 

@@ -2,6 +2,7 @@
 use Rattle.std.specs.Prelude.{◌≡◌, ℕ, ◌<◌, nat_lt, Bool, true, false, not, ◌&&◌, ◌||◌, if◌then◌else◌, List, [], ◌∷◌, map, flat_map, filter_map, length, Contains, IsTrue, IfSome, Option, Some, None, is_some, is_ok, IfOk, option_to_list}
 use Rattle.std.specs.List.{list_any, list_all, enumerate_from}
 use Rattle.fly_types.specs.declared.kinds.LiteralType.TheVariants as type
+use Rattle.fly_types.specs.declared.text.Text.{Text}
 use Rattle.fly_types.specs.declared.literals.LiteralMap.{LiteralMap}
 use Rattle.fly_types.specs.declared.variable.Variable.{Variable}
 use Rattle.fly_docs.specs.declared.task.Task.{Task}
@@ -20,12 +21,15 @@ use Rattle.fly_state.specs.declared.slots.SlotState.{SlotState}
 use Rattle.fly_state.specs.declared.slots.NodeState.{NodeState}
 use Rattle.fly_state.specs.declared.slots.ExecState.{ExecState}
 use Rattle.fly_state.specs.declared.moves.At.{At}
+use Rattle.fly_state.specs.declared.entries.Entry.{Entry}
+use Rattle.fly_state.specs.declared.entries.Op.TheVariants as op
+use Rattle.fly_state.specs.declared.entries.Reply.TheVariants as reply
 use Rattle.fly_state.specs.declared.view.View.{View}
 use Rattle.fly_state.specs.declared.view.Known.{Known}
 use Rattle.fly_state.specs.Plans.{RunPlan, Path, node_numbered, number_of, number_in, instance_of, case_nodes, is_workflow}
 use Rattle.fly_state.specs.States.{node_state, own_state, phase_of, is_final, is_not_yet_started, is_succeeded, is_skipped, is_running, is_within, is_broken}
 use Rattle.fly_state.specs.Inputs.{inputs_of_node, count_of_items}
-use Rattle.fly_state.specs.Moves.{is_ready, is_going_on, is_queued, is_succeeding, task_run_by}
+use Rattle.fly_state.specs.Moves.{is_ready, is_going_on, is_queued, is_retryable, is_succeeding, task_run_by}
 
 -- ---- the types of what stands in slots
 
@@ -143,6 +147,19 @@ may_ask_inputs_at plan s at = by at.node at.item
     by None (Some item) = false
     by (Some i) None = list_any (may_ask_inputs plan s i) (option_to_list (node_numbered plan i))
     by (Some i) (Some item) = is_some (node_numbered plan i) && nat_lt item (length (node_state s i).items)
+
+-- the inputs of a node that may be tried again have no fault
+abbrev pub HasFaultlessRetries : RunPlan → ExecState → Type 0
+HasFaultlessRetries plan s =
+    (i : ℕ) (p : PlanNode) → node_numbered plan i ≡ Some p → IsTrue (is_retryable (phase_of s i)) → IsTrue (is_ok (inputs_of_node plan s p None))
+
+-- ---- entries
+
+-- what a look-up found for a node is of the outputs that the node gives
+abbrev pub IsEntryOfPlan : RunPlan → Entry → Type 0
+IsEntryOfPlan plan e =
+    (exec : Text) (path : Path) (content : LiteralMap) (i : ℕ) (p : PlanNode) → e.op ≡ op.Lookup exec path → e.reply ≡ reply.Hit content
+    → number_of plan path ≡ Some i → node_numbered plan i ≡ Some p → AreOutputs (output_variables plan p) content
 
 -- ---- views
 

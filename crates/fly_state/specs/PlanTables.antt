@@ -9,8 +9,6 @@ use Rattle.fly_docs.specs.declared.node.Node.{Node}
 use Rattle.fly_docs.specs.declared.workflow.Workflow.{Workflow}
 use Rattle.fly_docs.specs.declared.workflow.Bundle.{Bundle}
 use Rattle.fly_docs.specs.declared.closure.Closure.{Closure}
-use Rattle.fly_docs.specs.Acyclic.{RunsAcyclic}
-use Rattle.fly_docs.specs.Closures.{bundle_of}
 use Rattle.fly_docs.specs.Lookups.{primary_of}
 use Rattle.fly_docs.specs.Plans.{PlanNode, nodes_of, plan_of}
 use Rattle.fly_docs.specs.Readable.{HasTaskNodes}
@@ -24,11 +22,6 @@ use Rattle.fly_state.specs.Sites.{node_place, binding_place, site_of, looks_at}
 pub record IsPlannable (c : Closure) : Type 0 where
   pub plain : HasTaskNodes c.primary
   pub few : length (nodes_of c.primary) ≤ 1024
-
--- its templates are typed, and no node of what is run needs itself
-pub record IsCompiled (c : Closure) : Type 0 where
-  pub typed : IsTyped (bundle_of c)
-  pub acyclic : RunsAcyclic (bundle_of c)
 
 -- a node of the primary workflow that stands in no other, by its place
 abbrev pub outer_node : Workflow → ℕ × Node → PlanNode

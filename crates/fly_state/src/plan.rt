@@ -9,6 +9,7 @@ ghost use Rattle.fly_docs.specs.Readable.{IsTaskTarget};
 ghost use Rattle.fly_docs.specs.Closures.{bundle_of};
 ghost use Rattle.fly_docs.specs.Plans.{PlanNode};
 ghost use Rattle.fly_docs.specs.declared.task.Task as task;
+ghost use Rattle.fly_docs.specs.declared.workflow.Workflow as workflow;
 ghost use Rattle.fly_state.specs.Sites.{binding_place, site_by};
 
 use crate::looks::order_of;
@@ -67,11 +68,13 @@ impl Plan {
     ghost use Rattle.std.specs.Prelude.{option_and_then};
     ghost use Rattle.std.specs.Option.{option_copied};
     ghost use Rattle.fly_docs.specs.Bindings.{source_node};
+    ghost use Rattle.fly_docs.specs.Lookups.{primary_of};
     ghost use Rattle.fly_state.specs.Plans.{plan_for, node_numbered, number_of, number_in, looks, task_of};
     ghost use Rattle.fly_state.specs.Origins.{source_of_origin, source_in_run};
     ghost use Rattle.fly_state.specs.Looks.{IsLookOrder};
     ghost use Rattle.fly_state.specs.Standing.{meaning_of, known_standing, standing_by};
-    ghost use Rattle.fly_state.specs.PlanTables.{IsPlannable, IsCompiled, IsOuterPlan};
+    ghost use Rattle.fly_docs.specs.TypedClosures.{IsTypedClosure};
+    ghost use Rattle.fly_state.specs.PlanTables.{IsPlannable, IsOuterPlan};
 
     /// Whether the closure is one that has a plan today: of task nodes alone, and no more than a workflow may have.
     pub fn expands(c: &Closure) -> bool
@@ -92,7 +95,7 @@ impl Plan {
     /// The plan of a closure that the compiler gave, of task nodes alone.
     pub fn expand(alloc: Global, c: &Closure) -> Result<Plan, NoMemory>
         requires plannable { IsPlannable c.now }
-        requires compiled { IsCompiled c.now }
+        requires compiled { IsTypedClosure c.now }
         ensures { IfOk result (λ plan. plan ≡ plan_for c.now) }
     {
         let nodes = c.primary.nodes.as_slice();
@@ -149,7 +152,7 @@ impl Plan {
     }
 
     /// The primary workflow.
-    pub(crate) fn primary(&self) -> &Workflow
+    pub fn primary(&self) -> &Workflow
         ensures { IsOuterPlan self.now result.now }
     {
         &self.documents.workflows.as_slice()[0]
@@ -167,7 +170,7 @@ impl Plan {
     }
 
     /// The node of this number.
-    pub(crate) fn node(&self, number: u32) -> &Node
+    pub fn node(&self, number: u32) -> &Node
         requires { number < length self.now.nodes }
         ensures { option_map (λ (p : PlanNode). p.node) (node_numbered self.now number) ≡ Some result.now }
     {
@@ -176,7 +179,7 @@ impl Plan {
     }
 
     /// The task that the node of this number runs.
-    pub(crate) fn task(&self, number: u32) -> Option<&Task>
+    pub fn task(&self, number: u32) -> Option<&Task>
         ensures { option_copied result ≡ option_and_then (task_of self.now) (node_numbered self.now number) }
     {
         let Some(site) = self.sites.get(number as usize) else {
@@ -212,6 +215,14 @@ impl Plan {
             → result.now ≡ map (binding_place p.node.inputs) t.interface.inputs }
     {
         self.sites.as_slice()[number as usize].bindings.as_slice()
+    }
+
+    /// For each output of the run the place of its binding.
+    pub(crate) fn output_bindings(&self) -> &[Option<usize>]
+        ensures { (w : workflow.Workflow) → primary_of self.now.documents ≡ Some w
+            → result.now ≡ map (binding_place w.outputs) w.interface.outputs }
+    {
+        self.outputs.as_slice()
     }
 
     /// What the node of this number looks at.

@@ -11,7 +11,7 @@ use fly_types::{Literal, LiteralMap, Text};
 
 impl Phase {
     /// Whether it never changes.
-    pub(crate) fn is_final(self) -> bool
+    pub fn is_final(self) -> bool
         ensures { result ≡ words.is_final self }
     {
         match self {
@@ -33,7 +33,7 @@ impl Phase {
 }
 
 /// The phase of the node of this number.
-pub(crate) fn phase_at(state: &ExecState, number: u32) -> Phase
+pub fn phase_at(state: &ExecState, number: u32) -> Phase
     ensures { result ≡ words.phase_of state.now number }
 {
     match state.nodes.get(number as usize) {

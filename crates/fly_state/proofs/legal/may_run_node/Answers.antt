@@ -1,0 +1,14 @@
+use Rattle.std.proofs.Common.{option_and_then, sym, ap, ◌∙◌}
+use Rattle.std.specs.Option.{option_copied}
+use Rattle.std.proofs.lemmas.Option.{none-some}
+use Rattle.fly_state.specs.Plans.{task_of}
+use Rattle.fly_state.proofs.TaskNodes.{task-node}
+use Rattle.fly_state.proofs.legal.may_run_node.Goals as goal
+
+pub returns-in-None : goal.returns-in-None
+returns-in-None c = λ n planned.
+    let plan = c.args.p.now in
+    let node = task-node plan c.primary.result.now c.primary.ensures c.args.v.now.state c.args.number n planned in
+    absurd (none-some node.task
+    (sym (ap option_copied c.in-None.is) ∙ c.task.ensures
+    ∙ ap (option_and_then (task_of plan)) planned ∙ node.runs))

@@ -1,0 +1,30 @@
+use Rattle.std.proofs.Common.{None, Err, subst}
+use Rattle.std.proofs.lemmas.Bool.{false≢true}
+use Rattle.fly_state.specs.declared.values.ValueFault.{ValueFault}
+use Rattle.fly_state.specs.Inputs.{inputs_of_node}
+use Rattle.fly_state.specs.PlanTables.{outer_node}
+use Rattle.fly_state.specs.Values.{IsTaken}
+use Rattle.fly_state.proofs.EffectLemmas.{failed-taken}
+use Rattle.fly_state.proofs.OuterPlans.{planned-outer}
+use Rattle.fly_state.proofs.node_slots.input_failed_slot.Goals as goal
+
+pub unreachable-requires : goal.unreachable-requires
+unreachable-requires c =
+    let plan = c.args.p.now in
+    let v = c.args.v.now in
+    let i = c.args.number in
+    let node = planned-outer plan c.primary.result.now c.primary.ensures i c.requires.number in
+    let p = outer_node c.primary.result.now (i, node.0) in
+    let wanted = inputs_of_node plan v.state p None in
+    let told = subst (λ (d : ValueFault). IsTaken wanted (Err d)) c.in-Err-Unknown.field-0-is
+    (c.in-Err-Unknown.ensures p node.1) in
+    false≢true (failed-taken plan v i p node.1 _ c.requires.legal told)
+
+pub unreachable-requires-in-Ok : goal.unreachable-requires-in-Ok
+unreachable-requires-in-Ok c =
+    let plan = c.args.p.now in
+    let v = c.args.v.now in
+    let i = c.args.number in
+    let node = planned-outer plan c.primary.result.now c.primary.ensures i c.requires.number in
+    let p = outer_node c.primary.result.now (i, node.0) in
+    false≢true (failed-taken plan v i p node.1 _ c.requires.legal (c.in-Ok.ensures p node.1))
