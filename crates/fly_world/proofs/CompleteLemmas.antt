@@ -33,7 +33,8 @@ use Rattle.fly_state.specs.Plans.{RunPlan, Path, workflow_in, numbered_case, is_
 use Rattle.fly_state.specs.States.{fresh_node, node_state, own_state, fresh_slot, phase_of, is_final, is_not_yet_started, is_running, is_succeeded, instance_state, known_in}
 use Rattle.fly_state.specs.Standing.{standing_of, is_at_rest, is_settled}
 use Rattle.fly_state.specs.Inputs.{inputs_of_node, value_in, fault_code, count_of_items, choice_of}
-use Rattle.fly_state.specs.Moves.{Effect, of_slot, where_true, is_queued, run_slot, new_item, no_places, may_run, is_cached, attempt_limit, outcome_in, slot_after, settled_slot, success_phase, retried_slot, failed_slot, is_ready, inputs_when, begun_slot, queued_slot, chosen_slot, no_case_slot, input_failed_slot, skipped_slot, run_task_effect, run_array_effect, run_effect, hit_content, hit_slot, is_succeeding, is_stored, stored_slot, item_ends, array_outputs, min_successes_of, succeeded_slot, task_run_by, closed_array_slot, branch_after, closed_branch_slot, has_failure, misses_output, slot_with_outputs, closed_instance_slot, closed_node_slot, aborted_slot, is_retryable, node_effect, item_effect, root_effect}
+use Rattle.fly_state.specs.declared.effects.Effect.{Effect}
+use Rattle.fly_state.specs.Moves.{of_slot, where_true, is_queued, run_slot, new_item, no_places, may_run, is_cached, attempt_limit, outcome_in, slot_after, settled_slot, success_phase, retried_slot, failed_slot, is_ready, inputs_when, begun_slot, queued_slot, chosen_slot, no_case_slot, input_failed_slot, skipped_slot, run_task_effect, run_array_effect, run_effect, hit_content, hit_slot, is_succeeding, is_stored, stored_slot, item_ends, array_outputs, min_successes_of, succeeded_slot, task_run_by, closed_array_slot, branch_after, closed_branch_slot, has_failure, misses_output, slot_with_outputs, closed_instance_slot, closed_node_slot, aborted_slot, is_retryable, node_effect, item_effect, root_effect}
 use Rattle.fly_world.specs.Versions.{IsComplete, AreAllComplete}
 use Rattle.fly_world.proofs.EffectLemmas.{in_some, in_where, in_map, in_then, in_cond, in_either, passed}
 

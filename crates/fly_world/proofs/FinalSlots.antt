@@ -20,7 +20,8 @@ use Rattle.fly_state.specs.declared.entries.Entry.{Entry}
 use Rattle.fly_state.specs.declared.view.View.{View}
 use Rattle.fly_state.specs.Plans.{RunPlan, node_numbered, instance_of}
 use Rattle.fly_state.specs.States.{fresh_node, first_state, node_state, phase_of, is_final, is_not_yet_started}
-use Rattle.fly_state.specs.Moves.{Effect, effect_of, node_effect, may_step, where_true, is_queued, state_with}
+use Rattle.fly_state.specs.declared.effects.Effect.{Effect}
+use Rattle.fly_state.specs.Moves.{effect_of, node_effect, may_step, where_true, is_queued, state_with}
 use Rattle.fly_state.specs.Rounds.{CitedMove, with_move, state_after}
 use Rattle.fly_state.specs.Laws.{slot_at}
 use Rattle.fly_state.proofs.FinalLemmas.{effect_of-not_final}

@@ -16,3 +16,4 @@ pub mod CompleteLemmas
 pub mod ShapeLemmas
 pub mod TestLemmas
 pub mod ViewLemmas
+pub mod KeptWorlds

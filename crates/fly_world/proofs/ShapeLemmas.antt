@@ -15,7 +15,8 @@ use Rattle.fly_state.specs.declared.entries.Entry.{Entry}
 use Rattle.fly_state.specs.declared.view.View.{View}
 use Rattle.fly_state.specs.Plans.{RunPlan, node_numbered, instance_of}
 use Rattle.fly_state.specs.States.{fresh_node, first_state, node_state}
-use Rattle.fly_state.specs.Moves.{Effect, effect_of, node_effect, item_effect, may_step, where_true, state_with}
+use Rattle.fly_state.specs.declared.effects.Effect.{Effect}
+use Rattle.fly_state.specs.Moves.{effect_of, node_effect, item_effect, may_step, where_true, state_with}
 use Rattle.fly_state.specs.Rounds.{CitedMove, with_move, state_after}
 use Rattle.fly_world.specs.World.{World, Execution, Past, empty_world, current_view}
 use Rattle.fly_world.specs.Changes.{Change, no_change, moment_becomes, catalog_becomes, lets_go, adds_execution, adds_launch, adds_claim, adds_outcome, adds_version, with_change, with_version}

@@ -1,10 +1,10 @@
 -- What holds of the change that a step makes.
-use Rattle.std.proofs.Common.{◌≡◌, ◌⊎◌, inl, inr, ℕ, ◌≤ℤ◌, ℤ, Bool, cond, true, false, not, ◌&&◌, ◌||◌, List, [], ◌∷◌, map, fold, length, find, count_by, Option, Some, None, option_map, option_and_then, is_some, refl, sym, subst, ap, ◌∙◌, eqb, ltb}
+use Rattle.std.proofs.Common.{◌≡◌, ◌⊎◌, inl, inr, ℕ, ◌≤ℤ◌, ℤ, Bool, cond, true, false, not, ◌&&◌, ◌||◌, List, [], ◌∷◌, map, fold, length, find, count_by, Option, Some, None, option_and_then, is_some, refl, sym, subst, ap, ◌∙◌, eqb, ltb}
 use Rattle.std.specs.Prelude.{⊤}
 use Rattle.std.specs.Int.{int_max}
 use Rattle.std.specs.List.{list_all}
 use Rattle.std.specs.Option.{option_map_or}
-use Rattle.std.proofs.lemmas.Bool.{and_parts, false≢true}
+use Rattle.std.proofs.lemmas.Bool.{and_parts, false≢true, not-false}
 use Rattle.std.proofs.lemmas.Int.{fold-int_max_bounds}
 use Rattle.std.proofs.lemmas.Option.{none-some, same_Some}
 use Rattle.fly_types.specs.declared.text.Text.{Text}
@@ -34,6 +34,8 @@ use Rattle.fly_state.specs.OfPlan.{item_output_variables}
 use Rattle.fly_state.specs.States.{first_state, is_not_yet_started, is_final}
 use Rattle.fly_state.specs.Moves.{where_true, is_queued, is_succeeding}
 use Rattle.fly_state.specs.Rounds.{IsRound, state_after}
+use Rattle.fly_cast.proofs.Options.{map-some}
+use Rattle.fly_state.proofs.FinalLemmas.{option_and_then-there}
 use Rattle.fly_world.specs.World.{World, Execution, Launch, Claim, is_submitted, is_launched, is_claimed, is_settled, claim_of, unclaimed, execution_named, current_of, current_view}
 use Rattle.fly_world.specs.Changes.{Change, no_change, moment_becomes, catalog_becomes, lets_go, adds_execution, adds_launch, adds_claim, adds_outcome, adds_version, with_change}
 use Rattle.fly_world.specs.Spots.{Spot, spot_numbered, spot_of, has_attempts, where_named, gives_all, attempt_spot, runs, has_inputs, cached_task, are_ids, phase_at, tag_at, slot_of, given_in, owner_at, is_ended}
@@ -57,6 +59,11 @@ IsAttemptOf plan w name =
     (p : PlanNode) × IsNodeOfAttempt plan name p × (has_attempts p.node name.item ≡ true)
     × ((at : ℕ × Execution) × (execution_named w name.exec ≡ Some at))
 
+-- the inputs are those of the attempt's slot in the current version
+abbrev pub HasInputsOf : RunPlan → World → AttemptName → LiteralMap → Type 0
+HasInputsOf plan w name inputs =
+    (spot : Spot) × (attempt_spot plan w name ≡ Some spot) × (has_inputs plan spot name inputs ≡ true)
+
 -- the outputs of an outcome are those of the task that its attempt runs
 abbrev pub IsTypedOutcome : RunPlan → AttemptName → Outcome → Type 0
 IsTypedOutcome plan name o =
@@ -78,7 +85,8 @@ Permits plan w (lets_go ends) = ends ≡ is_ended plan w
 Permits plan w (adds_execution name inputs state) =
     (is_submitted w name ≡ false) × (state ≡ first_state plan inputs) × (are_workflow_inputs plan inputs ≡ true)
     × (is_id_text name ≡ true)
-Permits plan w (adds_launch name inputs) = (is_launched w name ≡ false) × IsAttemptOf plan w name
+Permits plan w (adds_launch name inputs) =
+    (is_launched w name ≡ false) × IsAttemptOf plan w name × HasInputsOf plan w name inputs
 Permits plan w (adds_claim name) = (is_claimed w name ≡ false)
     × ((l : Launch) × (unclaimed w ≡ Some l) × (l.name ≡ name))
 Permits plan w (adds_outcome name o) = (is_settled w name ≡ false) × IsTypedOutcome plan name o
@@ -133,24 +141,22 @@ abbrev has_outputs : Outcome → Bool
 has_outputs (outcome.Succeeded outputs) = true
 has_outputs _ = false
 
-spot_node : (plan : RunPlan) (at : ℕ × Execution) (o : Option ℕ) (spot : Spot)
-    → option_and_then (spot_numbered plan at) o ≡ Some spot
-    → (i : ℕ) × (o ≡ Some i) × (node_numbered plan i ≡ Some spot.node)
-spot_node plan at None spot h = absurd (none-some spot h)
-spot_node plan at (Some i) spot h = (i, refl, by (node_numbered plan i) h)
-  where
-    by : (o : Option PlanNode) → option_map (λ p. record { execution = at; number = i; node = p }) o ≡ Some spot → o
-        ≡ Some spot.node
-    by None h = absurd (none-some spot h)
-    by (Some p) h = ap (λ (s : Spot). Some s.node) (same_Some _ spot h)
-
-spot_found : (plan : RunPlan) (path : Path) (o : Option (ℕ × Execution)) (spot : Spot)
+-- where a spot stands
+pub spot_at : (plan : RunPlan) (path : Path) (o : Option (ℕ × Execution)) (spot : Spot)
     → option_and_then (λ at. option_and_then (spot_numbered plan at) (number_of plan path)) o ≡ Some spot
-    → (i : ℕ) × (number_of plan path ≡ Some i) × (node_numbered plan i ≡ Some spot.node)
-spot_found plan path None spot h = absurd (none-some spot h)
-spot_found plan path (Some at) spot h = spot_node plan at (number_of plan path) spot h
+    → (o ≡ Some spot.execution) × (number_of plan path ≡ Some spot.number) ×
+    (node_numbered plan spot.number ≡ Some spot.node)
+spot_at plan path o spot h =
+    let at = option_and_then-there (λ x. option_and_then (spot_numbered plan x) (number_of plan path)) o spot h in
+    let number = option_and_then-there (spot_numbered plan at.0) (number_of plan path) spot at.2 in
+    let node = map-some (λ p. record { execution = at.0; number = number.0; node = p }) (node_numbered plan number.0)
+    spot number.2 in (
+      at.1 ∙ ap (λ (x : Spot). Some x.execution) (sym node.2),
+      number.1 ∙ ap (λ (x : Spot). Some x.number) (sym node.2),
+      ap (λ (x : Spot). node_numbered plan x.number) node.2 ∙ node.1 ∙ ap (λ (x : Spot). Some x.node) (sym node.2),
+    )
 
-where_named-is : (name : AttemptName) (o : Option Spot) (spot : Spot) → option_and_then (where_named name) o
+pub where_named-is : (name : AttemptName) (o : Option Spot) (spot : Spot) → option_and_then (where_named name) o
     ≡ Some spot → o ≡ Some spot
 where_named-is name None spot h = absurd (none-some spot h)
 where_named-is name (Some s) spot h = by (has_attempts s.node.node name.item) h
@@ -164,16 +170,11 @@ pub attempt_found : (plan : RunPlan) (w : World) (name : AttemptName) (spot : Sp
     ≡ Some spot
     → IsNodeOfAttempt plan name spot.node
 attempt_found plan w name spot h =
-    spot_found plan name.path (execution_named w name.exec) spot
-    (where_named-is name (spot_of plan w name.exec name.path) spot h)
+    let at = spot_at plan name.path (execution_named w name.exec) spot
+    (where_named-is name (spot_of plan w name.exec name.path) spot h) in
+    (spot.number, at.1, at.2)
 
-has_execution : (plan : RunPlan) (path : Path) (o : Option (ℕ × Execution)) (spot : Spot)
-    → option_and_then (λ at. option_and_then (spot_numbered plan at) (number_of plan path)) o ≡ Some spot
-    → (at : ℕ × Execution) × (o ≡ Some at)
-has_execution plan path None spot h = absurd (none-some spot h)
-has_execution plan path (Some at) spot h = (at, refl)
-
-where_named-has : (name : AttemptName) (o : Option Spot) (spot : Spot) → option_and_then (where_named name) o
+pub where_named-has : (name : AttemptName) (o : Option Spot) (spot : Spot) → option_and_then (where_named name) o
     ≡ Some spot
     → has_attempts spot.node.node name.item ≡ true
 where_named-has name None spot h = absurd (none-some spot h)
@@ -190,8 +191,11 @@ attempt_of plan w name spot h = (
   spot.node,
   attempt_found plan w name spot h,
   where_named-has name (spot_of plan w name.exec name.path) spot h,
-  has_execution plan name.path (execution_named w name.exec) spot
-      (where_named-is name (spot_of plan w name.exec name.path) spot h),
+  (
+    spot.execution,
+    (spot_at plan name.path (execution_named w name.exec) spot
+        (where_named-is name (spot_of plan w name.exec name.path) spot h)).0,
+  ),
 )
 
 -- and it is no other
@@ -395,7 +399,10 @@ module _ (plan : RunPlan) (w : World) where
         (λ e. (tt, (refl, refl, refl, refl, refl, refl, refl)))
         (λ e. tested (Fine (op.Launch name inputs)) other (says reply.BadInputs) done
         (λ e. (tt, (refl, refl, refl, refl, refl, refl, refl)))
-        (λ e. ((free, attempt_of plan w name spot there), (refl, refl, refl, refl, refl, refl, refl)))))
+        (λ e. (
+          (free, attempt_of plan w name spot there, (spot, there, not-false (has_inputs plan spot name inputs) e)),
+          (refl, refl, refl, refl, refl, refl, refl),
+        ))))
 
     launch-fine : (inputs : LiteralMap) (a : Answer) → on_launch plan w name inputs ≡ Some a
         → Fine (op.Launch name inputs) a

@@ -49,7 +49,7 @@ one_of : (b : Bool) → b || false ≡ true → b ≡ true
 one_of true h = refl
 one_of false h = h
 
-typed_inputs : (plan : RunPlan) (inputs : LiteralMap) (wanted : Workflow) (o : Option Workflow) → o ≡ Some wanted
+pub typed_inputs : (plan : RunPlan) (inputs : LiteralMap) (wanted : Workflow) (o : Option Workflow) → o ≡ Some wanted
     → list_any (λ (w : Workflow). gives_all w.interface.inputs inputs) (option_to_list o) ≡ true
     → AreOutputs wanted.interface.inputs inputs
 typed_inputs plan inputs wanted None h test = absurd (none-some wanted h)
@@ -62,18 +62,18 @@ typed_inputs plan inputs wanted (Some x) h test =
 pub contained : {X : Type 0} (xs : List X) (i : ℕ) (x : X) → slice_get xs i ≡ Some x → Contains xs x
 contained xs i x h = (i, slice_get_within xs i x h, get_or_from_slice_get xs i x x h)
 
-abbrev AreInputs : RunPlan → Execution → Type 0
+abbrev pub AreInputs : RunPlan → Execution → Type 0
 AreInputs plan x = (wanted : Workflow) → primary_of plan.documents ≡ Some wanted
     → AreOutputs wanted.interface.inputs x.inputs
 
-abbrev IsTyped : RunPlan → Settlement → Type 0
+abbrev pub IsTyped : RunPlan → Settlement → Type 0
 IsTyped plan s = IsTypedOutcome plan s.name s.outcome
 
-abbrev TypedWorld : RunPlan → World → Type 0
+abbrev pub TypedWorld : RunPlan → World → Type 0
 TypedWorld plan w = All (AreInputs plan) w.executions × All (IsTyped plan) w.outcomes
 
 module _ (plan : RunPlan) (w : World) (h : TypedWorld plan w) where
-  typed_change : (c : Change) → Permits plan w c → TypedWorld plan (with_change w c)
+  pub typed_change : (c : Change) → Permits plan w c → TypedWorld plan (with_change w c)
   typed_change no_change permits = h
   typed_change (moment_becomes moment) permits = h
   typed_change (catalog_becomes catalog) permits = h
@@ -97,7 +97,7 @@ module _ (plan : RunPlan) (w : World) (h : TypedWorld plan w) where
         h.1,
       )
 
-nothing_typed : (plan : RunPlan) → TypedWorld plan empty_world
+pub nothing_typed : (plan : RunPlan) → TypedWorld plan empty_world
 nothing_typed plan = (All-nil (AreInputs plan), All-nil (IsTyped plan))
 
 pub history-typed : (plan : RunPlan) (closure : List ℕ) (journal : List Entry) (w : World)

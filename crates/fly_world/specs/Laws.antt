@@ -5,6 +5,7 @@ use Rattle.std.specs.Int.{int_max}
 use Rattle.fly_docs.specs.declared.dataset.DatasetId.{DatasetId}
 use Rattle.fly_docs.specs.declared.submission.Submission.{Submission}
 use Rattle.fly_docs.specs.declared.attempt_name.AttemptName.{AttemptName}
+use Rattle.fly_docs.specs.declared.workflow.Workflow.{Workflow}
 use Rattle.fly_docs.specs.Plans.{PlanNode}
 use Rattle.fly_policy.specs.declared.outcome.Outcome.{Outcome}
 use Rattle.fly_policy.specs.Timeouts.{IsExpired}
@@ -19,6 +20,7 @@ use Rattle.fly_state.specs.declared.slots.SlotState.{SlotState}
 use Rattle.fly_state.specs.declared.moves.At.{At}
 use Rattle.fly_state.specs.declared.slots.ExecState.{ExecState}
 use Rattle.fly_state.specs.Plans.{RunPlan}
+use Rattle.fly_state.specs.PlanTables.{IsOuterPlan}
 use Rattle.fly_state.specs.States.{is_final}
 use Rattle.fly_state.specs.Laws.{slot_at}
 use Rattle.fly_state.specs.Rounds.{IsRound, state_after}
@@ -27,7 +29,7 @@ use Rattle.fly_world.specs.Changes.{adds_version, with_change, with_entry}
 use Rattle.fly_world.specs.Steps.{cited_move}
 use Rattle.fly_world.specs.ReadOff.{versions_of, submissions_in, launched_in, claimed_in, settled_in, ticks_in}
 use Rattle.fly_world.specs.Spots.{timeout_of, is_ended}
-use Rattle.fly_world.specs.Versions.{HasTypedRecords, HasNamesOfPlan, HasShapedVersions, IsNodeOfAttempt}
+use Rattle.fly_world.specs.Versions.{HasTypedRecords, HasNamesOfPlan, HasShapedVersions, IsNodeOfAttempt, IsWorldOfPlan}
 use Rattle.fly_world.specs.Journals.{Step, Leads, IsHistory, IsLegalJournal, beginning}
 
 -- ---- one world
@@ -160,6 +162,13 @@ abbrev pub RecordsAreTyped : Type 0
 RecordsAreTyped =
     (plan : RunPlan) (closure : List ℕ) (journal : List Entry) (w : World) → IsHistory plan closure journal w
     → HasTypedRecords plan w
+
+-- in the world that a legal journal leaves, for a plan of task nodes: each version and each view is of the plan
+abbrev pub WorldsAreOfPlan : Type 0
+WorldsAreOfPlan =
+    (plan : RunPlan) (f : Workflow) (closure : List ℕ) (journal : List Entry) (w : World) → IsOuterPlan plan f
+    → IsHistory plan closure journal w
+    → IsWorldOfPlan plan w
 
 -- The attempt was claimed, and at the moment its time is over.
 pub record IsTimeout (plan : RunPlan) (w : World) (name : AttemptName) : Type 0 where

@@ -1,4 +1,4 @@
-ghost use Rattle.fly_world.specs.Laws.{LeavesOneWorld, PrefixesAreLegal, StepsExtend, WorldsTellJournals, LaunchesAreSingle, OutcomesStay, MomentsNeverFall, VersionsStay, FinalSlotsStay, NamesAreOfPlan, VersionsAreShaped, RecordsAreTyped, TimeoutsAreDue, ReservationsHold, WritesAreRounds, ViewsStay};
+ghost use Rattle.fly_world.specs.Laws.{LeavesOneWorld, PrefixesAreLegal, StepsExtend, WorldsTellJournals, LaunchesAreSingle, OutcomesStay, MomentsNeverFall, VersionsStay, FinalSlotsStay, NamesAreOfPlan, VersionsAreShaped, RecordsAreTyped, WorldsAreOfPlan, TimeoutsAreDue, ReservationsHold, WritesAreRounds, ViewsStay};
 
 /// A journal leaves one world. The call does nothing: its contract is the law.
 pub fn journals_leave_one_world()
@@ -62,6 +62,12 @@ pub fn versions_are_shaped()
 /// contract is the law.
 pub fn records_are_typed()
     ensures { RecordsAreTyped }
+{}
+
+/// After a legal journal for a plan of task nodes, each version and each view is of the plan. The call does nothing: its
+/// contract is the law.
+pub fn worlds_are_of_plan()
+    ensures { WorldsAreOfPlan }
 {}
 
 /// An attempt times out only where it was claimed and its time is over. The call does nothing: its contract is the law.

@@ -12,7 +12,7 @@ pub use laws::{
     final_slots_stay, journals_leave_one_world, launches_are_single, legal_prefixes,
     moments_never_fall, names_are_of_plan, outcomes_stay, records_are_typed, reservations_hold,
     steps_extend, timeouts_are_due, versions_are_shaped, versions_stay, views_stay,
-    worlds_tell_journals, writes_are_rounds,
+    worlds_are_of_plan, worlds_tell_journals, writes_are_rounds,
 };
 pub use stored::Stored;
 pub use work::Work;
