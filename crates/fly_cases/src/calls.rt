@@ -2,7 +2,7 @@ use crate::case::wants_memory;
 use crate::messages::{literal_and_type, literal_map, type_under};
 use anyhow::{Context, Result, bail};
 use fly_cast::{ConvertFault, FitFault, convert, fit, is_castable};
-use fly_docs::{NameFault, read_name};
+use fly_docs::{AttemptName, NameFault, print_name, read_name};
 use fly_policy::expired;
 use fly_types::{Literal, LiteralType, NoMemory, Text, canonical, is_member};
 use fly_writers::write_literal;
@@ -15,7 +15,8 @@ use std::io::Write;
 /// - `cast`: the `literal` of the type `from` as one of the type `to`;
 /// - `fit`: the `literal` fitted to the type `to`;
 /// - `canonical`: the canonical bytes of the literals of `map`, in hexadecimal digits;
-/// - `name`: the parts of the name of an attempt, `text`;
+/// - `get`: the literal that `map` has under the name `of`;
+/// - `name`: the parts of the name of an attempt, `text`, and a copy of it as it is printed;
 /// - `expired`: whether a timeout of `timeout` milliseconds from the moment `start` is over at `now`.
 ///
 /// Types, literals and literal maps are messages in JSON.
@@ -25,6 +26,7 @@ pub fn make_call<W: Write>(alloc: Global, line: &Value, writer: &mut W) -> Resul
         "cast" => cast_answer(alloc, line)?,
         "fit" => fit_answer(alloc, line)?,
         "canonical" => canonical_answer(alloc, line)?,
+        "get" => get_answer(alloc, line)?,
         "name" => name_answer(alloc, text_under(line, "text")?)?,
         "expired" => expired_answer(alloc, line)?,
         _ => bail!("a call of no name"),
@@ -120,6 +122,15 @@ fn canonical_answer(alloc: Global, line: &Value) -> Result<String> {
     Ok(digits)
 }
 
+fn get_answer(alloc: Global, line: &Value) -> Result<String> {
+    let literals = literal_map(alloc, line.get("map"))?;
+    let name = Text::from_str(alloc, text_under(line, "of")?).map_err(wants_memory)?;
+    match literals.get(&name) {
+        Some(literal) => literal_text(alloc, literal),
+        None => Ok(String::from_str(alloc, "none")?),
+    }
+}
+
 fn name_answer(alloc: Global, text: &str) -> Result<String> {
     let text = Text::from_str(alloc, text).map_err(wants_memory)?;
     let name = match read_name(alloc, &text) {
@@ -136,8 +147,14 @@ fn name_answer(alloc: Global, text: &str) -> Result<String> {
         parts.push_str(format!(in alloc; " item {item}")?.as_str())?;
     }
     let attempt = name.attempt;
-    parts.push_str(format!(in alloc; " attempt {attempt}")?.as_str())?;
+    parts.push_str(format!(in alloc; " attempt {attempt}, ")?.as_str())?;
+    parts.push_str(printed_copy(alloc, &name).map_err(wants_memory)?.as_str())?;
     Ok(parts)
+}
+
+/// A copy of the name, as it is printed.
+fn printed_copy(alloc: Global, name: &AttemptName) -> Result<Text, NoMemory> {
+    print_name(alloc, &name.copy(alloc)?)
 }
 
 fn expired_answer(alloc: Global, line: &Value) -> Result<String> {

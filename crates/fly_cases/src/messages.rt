@@ -1,3 +1,6 @@
+ghost use Rattle.std.specs.Prelude.{IfOk};
+ghost use Rattle.fly_types.specs.Sound.{IsSoundMap};
+
 use anyhow::{Context, Error, Result, anyhow, bail};
 use fly_idl::{DocFault, read_literal_map};
 use fly_types::{Literal, LiteralMap, LiteralType};
@@ -5,12 +8,19 @@ use serde_json::Value;
 use std::alloc::Global;
 
 /// The literals of a `LiteralMap` in JSON.
-pub fn literal_map(alloc: Global, map: Option<&Value>) -> Result<LiteralMap> {
+pub fn literal_map(alloc: Global, map: Option<&Value>) -> Result<LiteralMap>
+    ensures { IfOk result IsSoundMap }
+{
     let text = map.context("a line without a map")?.to_string(alloc)?;
-    literals_in(alloc, text.as_bytes()).map_err(unread)
+    match literals_in(alloc, text.as_bytes()) {
+        Ok(literals) => Ok(literals),
+        Err(fault) => Err(unread(fault)),
+    }
 }
 
-fn literals_in(alloc: Global, bytes: &[u8]) -> Result<LiteralMap, DocFault> {
+fn literals_in(alloc: Global, bytes: &[u8]) -> Result<LiteralMap, DocFault>
+    ensures { IfOk result IsSoundMap }
+{
     read_literal_map(alloc, bytes)
 }
 

@@ -1,17 +1,21 @@
 use crate::case::wants_memory;
 use crate::content::Documents;
 use anyhow::{Context, Result, bail};
-use fly_idl::{DocFault, read_bundle, read_literal_map};
-use fly_types::NoMemory;
+use fly_docs::{Bundle, Submission};
+use fly_idl::{DocFault, read_bundle, read_literal_map, read_submissions};
+use fly_types::{List, NoMemory};
 use fly_writers::write_literal_map;
 use serde_json::Value;
 use std::alloc::Global;
 use std::io::{self, Write};
 
-/// What the reading of a document came to: a bundle, literals as they are written, or the first fault.
+/// What the reading of a document came to: a bundle or submissions, literals as they are written, or the first fault.
 #[derive(Drop)]
 enum Answer {
     Bundle,
+    Submissions(List<Submission>),
+    /// A copy of what was read is not the same.
+    Differs,
     Literals(Vec<u8>),
     Fault(DocFault),
 }
@@ -22,6 +26,8 @@ impl Answer {
         write!(writer, "{name}: ")?;
         match self {
             Answer::Bundle => writeln!(writer, "a bundle"),
+            Answer::Submissions(submissions) => print_names(submissions.as_slice(), writer),
+            Answer::Differs => writeln!(writer, "a copy that differs"),
             Answer::Literals(text) => {
                 writer.write_all(text)?;
                 writeln!(writer)
@@ -35,10 +41,37 @@ impl Answer {
     }
 }
 
-fn bundle_answer(alloc: Global, bytes: &[u8]) -> Answer {
+/// Prints the names of submissions, and how many inputs each has.
+fn print_names<W: Write>(submissions: &[Submission], writer: &mut W) -> io::Result<()> {
+    write!(writer, "submissions")?;
+    for submission in submissions {
+        let name = submission.name.as_str();
+        let count = submission.inputs.entries.len();
+        write!(writer, " {name} {count}")?;
+    }
+    writeln!(writer)
+}
+
+/// A copy of the bundle is the same.
+fn copies(alloc: Global, bundle: &Bundle) -> Result<bool, NoMemory> {
+    Ok(bundle.copy(alloc)? == *bundle)
+}
+
+fn bundle_answer(alloc: Global, bytes: &[u8]) -> Result<Answer, NoMemory> {
     match read_bundle(alloc, bytes) {
-        Ok(_) => Answer::Bundle,
-        Err(fault) => Answer::Fault(fault),
+        Ok(bundle) if copies(alloc, &bundle)? => Ok(Answer::Bundle),
+        Ok(_) => Ok(Answer::Differs),
+        Err(fault) => Ok(Answer::Fault(fault)),
+    }
+}
+
+fn submissions_answer(alloc: Global, bytes: &[u8]) -> Result<Answer, NoMemory> {
+    match read_submissions(alloc, bytes) {
+        Ok(submissions) if submissions.copy(alloc)? == submissions => {
+            Ok(Answer::Submissions(submissions))
+        }
+        Ok(_) => Ok(Answer::Differs),
+        Err(fault) => Ok(Answer::Fault(fault)),
     }
 }
 
@@ -49,12 +82,13 @@ fn literals_answer(alloc: Global, bytes: &[u8]) -> Result<Answer, NoMemory> {
     }
 }
 
-/// What these bytes come to, read as what `kind` names: a `bundle` or `literals`.
+/// What these bytes come to, read as what `kind` names: a `bundle`, `submissions` or `literals`.
 fn read_as(alloc: Global, kind: Option<&str>, bytes: &[u8]) -> Result<Answer> {
     match kind {
-        Some("bundle") => Ok(bundle_answer(alloc, bytes)),
+        Some("bundle") => bundle_answer(alloc, bytes).map_err(wants_memory),
+        Some("submissions") => submissions_answer(alloc, bytes).map_err(wants_memory),
         Some("literals") => literals_answer(alloc, bytes).map_err(wants_memory),
-        _ => bail!("a case that reads neither a bundle nor literals"),
+        _ => bail!("a case that reads no document"),
     }
 }
 
