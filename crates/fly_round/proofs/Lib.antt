@@ -1,0 +1,9 @@
+pub mod Lists
+pub mod AttemptLemmas
+pub mod PathLemmas
+pub mod ComeLemmas
+pub mod TellLemmas
+pub mod StepLemmas
+pub mod AnswerLemmas
+pub mod MoveLemmas
+pub mod Examples
