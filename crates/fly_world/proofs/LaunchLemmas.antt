@@ -27,7 +27,7 @@ use Rattle.fly_world.proofs.JournalLemmas.{along_changes}
 
 -- ---- names
 
-same_name-refl : (n : AttemptName) → same_name n n ≡ true
+pub same_name-refl : (n : AttemptName) → same_name n n ≡ true
 same_name-refl n =
     and_from _ _
     (and_from _ _
@@ -42,7 +42,7 @@ same_item-is None (Some n) h = absurd (false≢true h)
 same_item-is (Some m) None h = absurd (false≢true h)
 same_item-is (Some m) (Some n) h = ap Some (eqb-true m n h)
 
-same_name-is : (a b : AttemptName) → same_name a b ≡ true → a ≡ b
+pub same_name-is : (a b : AttemptName) → same_name a b ≡ true → a ≡ b
 same_name-is a b h =
     let last = and_parts _ (eqb a.attempt b.attempt) h in
     let third = and_parts _ (same_item a.item b.item) last.0 in
@@ -53,7 +53,7 @@ same_name-is a b h =
 
 -- a name that is not found is none of those that are there
 module _ {X : Type 0} (name_in : X → AttemptName) (name : AttemptName) where
-  absent : (xs : List X) → is_some (find (λ (x : X). same_name name (name_in x)) xs) ≡ false
+  pub absent : (xs : List X) → is_some (find (λ (x : X). same_name name (name_in x)) xs) ≡ false
       → All (λ b. b ≢ name) (map name_in xs)
   absent [] free = All-nil (λ b. b ≢ name)
   absent (x ∷ xs) free = by (same_name name (name_in x)) refl free (absent xs)
@@ -77,7 +77,7 @@ module _ {X : Type 0} (name_in : X → AttemptName) (name : AttemptName) where
       ∙ sym (map-append name_in xs (x ∷ []))) apart
 
   -- what is found has the name
-  named_same : (xs : List X) (x : X) → find (λ (x : X). same_name name (name_in x)) xs ≡ Some x → name ≡ name_in x
+  pub named_same : (xs : List X) (x : X) → find (λ (x : X). same_name name (name_in x)) xs ≡ Some x → name ≡ name_in x
   named_same [] x h = absurd (none-some x h)
   named_same (y ∷ ys) x h = by (same_name name (name_in y)) refl h (named_same ys x)
     where
@@ -94,7 +94,7 @@ unsettled_name None h = refl
 unsettled_name (Some s) h = h
 
 -- what is found is there
-found_there : {X : Type 0} (p : X → Bool) (xs : List X) (x : X) → find p xs ≡ Some x → Contains xs x
+pub found_there : {X : Type 0} (p : X → Bool) (xs : List X) (x : X) → find p xs ≡ Some x → Contains xs x
 found_there p [] x h = absurd (none-some x h)
 found_there p (y ∷ ys) x h = by (p y) h (found_there p ys x)
   where

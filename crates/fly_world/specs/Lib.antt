@@ -10,3 +10,11 @@ pub mod Work
 pub mod Called
 pub mod Stored
 pub mod Laws
+pub mod Answers
+pub mod Store
+pub mod Kept
+pub mod Cache
+pub mod Attempts
+pub mod Writes
+pub mod Effects
+pub mod Views

@@ -13,16 +13,12 @@ use Rattle.fly_state.specs.declared.slots.ExecState.{ExecState}
 use Rattle.fly_state.specs.declared.view.View.{View}
 use Rattle.fly_state.specs.declared.view.Known.{Known}
 use Rattle.fly_state.specs.declared.entries.Entry.{Entry}
-use Rattle.fly_state.specs.Plans.{same_path}
 use Rattle.fly_state.specs.States.{is_final}
-use Rattle.fly_state.specs.Moves.{same_item}
+pub use Rattle.fly_attempts.specs.declared.parts.Launch.{Launch}
+pub use Rattle.fly_attempts.specs.Parts.{Claim, Settlement, same_name}
+pub use Rattle.fly_world.specs.declared.versions.Past.{Past}
 
 -- ---- the lists
-
--- A version that is no longer current, and the place of the Write that made the next one.
-pub record Past : Type 0 where
-  pub state : ExecState
-  pub until : ℕ
 
 -- An execution: its name and what was submitted, its versions before the current one in their order, and the current
 -- one.
@@ -31,24 +27,6 @@ pub record Execution : Type 0 where
   pub inputs : LiteralMap
   pub past : List Past
   pub state : ExecState
-
--- An attempt that was launched with its inputs.
-pub record Launch : Type 0 where
-  pub name : AttemptName
-  pub inputs : LiteralMap
-  pub place : ℕ
-
--- An attempt that was handed out, and the moment then.
-pub record Claim : Type 0 where
-  pub name : AttemptName
-  pub moment : ℤ
-  pub place : ℕ
-
--- What an attempt came to.
-pub record Settlement : Type 0 where
-  pub name : AttemptName
-  pub outcome : Outcome
-  pub place : ℕ
 
 pub record World : Type 0 where
   pub executions : List Execution
@@ -100,10 +78,6 @@ abbrev pub is_submitted : World → Text → Bool
 is_submitted w name = is_some (execution_named w name)
 
 -- ---- attempts
-
--- the two are one name
-abbrev pub same_name : AttemptName → AttemptName → Bool
-same_name a b = bytes_eq a.exec b.exec && same_path a.path b.path && same_item a.item b.item && a.attempt == b.attempt
 
 abbrev pub launch_of : World → AttemptName → Option Launch
 launch_of w name = find (λ (l : Launch). same_name name l.name) w.launches

@@ -2,11 +2,26 @@
 //! and the laws of every legal journal.
 #![tactic(auto)]
 
+mod admission;
+mod answers;
+mod attempts;
+mod cache;
 mod called;
+mod effects;
 mod laws;
+mod spots;
+mod store;
 mod stored;
+mod submissions;
+mod telling;
+mod ticks;
+mod versions;
+mod views;
 mod work;
+mod world;
+mod writes;
 
+pub use admission::AdmitFault;
 pub use called::Called;
 pub use laws::{
     final_slots_stay, journals_leave_one_world, launches_are_single, legal_prefixes,
@@ -16,3 +31,4 @@ pub use laws::{
 };
 pub use stored::Stored;
 pub use work::Work;
+pub use world::World;
