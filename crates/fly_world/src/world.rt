@@ -14,6 +14,7 @@ use crate::answers::{Answer, Change, answer_to};
 use crate::store::Store;
 use crate::telling::{view_read, work_claimed};
 use crate::{Called, Stored, Work};
+use fly_desk::Annals;
 use fly_docs::{AttemptName, Submission};
 use fly_state::{Entry, ExecState, Op, Plan, Reply, View};
 use fly_types::NoMemory;
@@ -56,7 +57,7 @@ impl<'p> World<'p> {
     ghost use Rattle.fly_world.specs.Steps.{step};
     ghost use Rattle.fly_world.specs.Journals.{is_begin};
     ghost use Rattle.fly_world.specs.Called.{IsCalled};
-    ghost use Rattle.fly_world.specs.Kept.{begun, moved_to, Admits, Takes};
+    ghost use Rattle.fly_world.specs.Kept.{begun, moved_to, Admits, IsLegal, Takes};
 
     /// The store in which a run has begun, for the closure of this hash.
     pub fn begin(alloc: Global, plan: &'p Plan, closure: [u8; 32]) -> Result<World<'p>, NoMemory>
@@ -150,6 +151,13 @@ impl<'p> World<'p> {
         Ok(())
     }
 
+    /// What the store keeps, for callers that go by the laws of journals. The call does nothing.
+    pub fn legal_journal(&self)
+        ensures { IsLegal self.now }
+    {
+        let _kept = &self.store;
+    }
+
     /// How many entries there are. Takes no memory.
     pub fn len(&self) -> u64
         ensures { result ≡ length self.now.world.entries }
@@ -216,6 +224,27 @@ impl<'p> World<'p> {
         ensures { result ≡ are_all_over self.now.world }
     {
         are_all_over(&self.store)
+    }
+}
+
+/// A desk can hold the store: its list is the journal, and its basis is the plan.
+impl<'p> Annals for World<'p> {
+    type Entry = Entry;
+
+    type Basis = Plan;
+
+    ghost entries = { λ w. w.world.entries };
+
+    ghost spare = { λ w. w.spare };
+
+    ghost basis = { λ w. w.plan };
+
+    fn count(&self) -> u64 {
+        self.store.len()
+    }
+
+    fn room(&self) -> u64 {
+        self.store.spare()
     }
 }
 
