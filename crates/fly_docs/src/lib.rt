@@ -23,7 +23,7 @@ pub use closure::{Closure, Connections};
 pub use dataset::DatasetId;
 pub use interface::Interface;
 pub use names::{END_NODE, Identifier, START_NODE};
-pub use naming::{NameFault, print_name, read_name};
+pub use naming::{NameFault, print_name, read_name, read_number};
 pub use node::{Case, Node, Target};
 pub use submission::Submission;
 pub use task::Task;

@@ -97,7 +97,7 @@ fn cut_attempt(text: &str) -> Option<(&str, u32)>
         (λ r. Lacks at_sign r.0.now × (r.1 < 2 ^ 32) × (text.now ≡ r.0.now ++ at_sign ∷ decimal r.1)) }
 {
     match cut(text, '@') {
-        Some((rest, attempt)) => match number_of(attempt) {
+        Some((rest, attempt)) => match read_number(attempt) {
             Some(attempt) => Some((rest, attempt)),
             None => None,
         },
@@ -112,7 +112,7 @@ fn cut_item(text: &str) -> Option<(&str, Option<u32>)>
         (λ r. Lacks hash_sign r.0.now × IsItem r.1 × (text.now ≡ r.0.now ++ item_text r.1)) }
 {
     match cut(text, '#') {
-        Some((ids, item)) => match number_of(item) {
+        Some((ids, item)) => match read_number(item) {
             Some(item) => Some((ids, Some(item))),
             None => None,
         },
@@ -174,8 +174,8 @@ fn texts_of(alloc: Global, parts: &[&str]) -> Result<List<Text>, NoMemory>
     Ok(List::from_vec(texts))
 }
 
-/// The number that is written in decimal, without a sign or leading zeros.
-fn number_of(text: &str) -> Option<u32>
+/// The number of 32 bits that is written in decimal, without a sign or leading zeros. Takes no memory.
+pub fn read_number(text: &str) -> Option<u32>
     ensures { MatchOption result
         ((n : ℕ) → n < 2 ^ 32 → text.now ≢ decimal n)
         (λ n. (n < 2 ^ 32) × (text.now ≡ decimal n)) }

@@ -1,7 +1,7 @@
 use Rattle.std.proofs.Common.{arith}
 use Rattle.std.proofs.lemmas.Str.Pattern.{starts_char}
 use Rattle.fly_docs.proofs.NameTexts.{plus_is_no_number, zero_is_no_number}
-use Rattle.fly_docs.proofs.naming.number_of.Goals as goal
+use Rattle.fly_docs.proofs.naming.read_number.Goals as goal
 
 pub returns-then-starts_with : goal.returns-then-starts_with
 returns-then-starts_with c = λ n small e.
