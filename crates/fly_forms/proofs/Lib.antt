@@ -1,0 +1,5 @@
+mod Lists
+mod NameOrder
+mod BoundLayers
+mod ExprLayers
+mod NodeLayers
