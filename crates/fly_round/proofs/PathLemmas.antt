@@ -1,9 +1,10 @@
 -- The paths of a plan of task nodes in one workflow tell its nodes apart.
-use Rattle.std.proofs.Common.{◌≡◌, ◌≢◌, ℕ, zero, suc, ◌<◌, ◌==◌, cond, Bool, true, false, ◌&&◌, List, [], ◌∷◌, map, length, get_or, position, bytes_eq, AllPairs, Option, Some, None, option_map, refl, sym, ◌∙◌, ap, subst, arith, ⊎_elim}
+use Rattle.std.proofs.Common.{◌≡◌, ◌≢◌, ℕ, zero, suc, ◌<◌, ◌≤◌, ◌==◌, All, cond, Bool, true, false, ◌&&◌, List, [], ◌∷◌, map, length, get_or, position, bytes_eq, AllPairs, Option, Some, None, option_map, refl, sym, ◌∙◌, ap, subst, arith, ⊎_elim}
 use Rattle.std.specs.List.{slice_get}
 use Rattle.std.proofs.lemmas.Bool.{cases_Bool, cases_order, false≢true, eq-eqb}
 use Rattle.std.proofs.lemmas.Map.Views.{exact_unsigned_eq as eqb-eq}
 use Rattle.std.proofs.lemmas.List.{length-map}
+use Rattle.std.proofs.lemmas.List.Elements.{All-cons, All-nil, All-get_or}
 use Rattle.std.proofs.lemmas.List.Quantifiers.{position-Some}
 use Rattle.std.proofs.lemmas.Option.{none-some, same_Some, slice_get-map, slice_get_within, get_or_from_slice_get, slice_get-get_or}
 use Rattle.std.proofs.lemmas.Slice.Eq.{bytes_eq-Decides, slice_eq-Decides}
@@ -11,6 +12,7 @@ use Rattle.fly_types.specs.declared.text.Text.{Text}
 use Rattle.fly_docs.specs.declared.attempt_name.AttemptName.{AttemptName}
 use Rattle.fly_docs.specs.declared.node.Node.{Node}
 use Rattle.fly_docs.specs.declared.workflow.Workflow.{Workflow}
+use Rattle.fly_docs.specs.Names.{IsId}
 use Rattle.fly_docs.specs.Plans.{PlanNode}
 use Rattle.fly_state.specs.declared.view.View.{View}
 use Rattle.fly_state.specs.Moves.{is_attempt, same_item}
@@ -18,6 +20,7 @@ use Rattle.fly_state.specs.PlanTables.{IsOuterPlan, outer_node}
 use Rattle.fly_state.specs.Plans.{RunPlan, Path, same_path, number_of, node_numbered}
 use Rattle.fly_state.proofs.OuterPlans.{numbered-outer}
 use Rattle.fly_state.proofs.PlaceLemmas.{position_cons}
+use Rattle.fly_round.specs.Questions.{HasPathsOfIds}
 use Rattle.fly_state.proofs.PlanLemmas.{nodes_of-plain, and-true, and-false}
 use Rattle.fly_round.specs.Attempts.{is_number}
 
@@ -86,6 +89,15 @@ module _ (plan : RunPlan) (w : Workflow) (outer : IsOuterPlan plan w) where
       by : (o : Option Node) → slice_get w.nodes i ≡ o → (n : Node) × (slice_get w.nodes i ≡ Some n) × (p.path ≡ n.id ∷ [])
       by None there = absurd (none-some p (numbered None there))
       by (Some n) there = (n, there, ap (λ (q : PlanNode). q.path) (sym (same_Some _ _ (numbered (Some n) there))))
+
+  pub paths-of-ids : HasPathsOfIds plan
+  paths-of-ids p held =
+      let planned : node_numbered plan held.0 ≡ Some p = slice_get-get_or plan.nodes held.0 p held.1 ∙ ap Some held.2 in
+      let n = node-at held.0 p planned in
+      let id : IsId n.0.id =
+      subst (λ (m : Node). IsId m.id) (get_or_from_slice_get w.nodes held.0 n.0 n.0 n.1)
+      (All-get_or (λ (m : Node). IsId m.id) w.nodes held.0 n.0 (slice_get_within w.nodes held.0 n.0 n.1) outer.ids) in
+      subst (λ (path : Path). All IsId path × (1 ≤ length path)) (sym n.2) (All-cons IsId n.0.id [] id (All-nil IsId), omega arith)
 
   id-at : (i : ℕ) (n : Node) (d : Text) → slice_get w.nodes i ≡ Some n → get_or ids i d ≡ n.id
   id-at i n d there =

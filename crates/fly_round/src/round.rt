@@ -3,7 +3,7 @@ ghost use Rattle.std.specs.Prelude.{◌≡◌, ◌<◌, ◌&&◌, ◌||◌, ◌�
 ghost use Rattle.fly_state.specs.declared.entries.Op as ops;
 ghost use Rattle.fly_state.specs.OfPlan.{IsViewOfPlan};
 ghost use Rattle.fly_round.specs.Questions as asked;
-ghost use Rattle.fly_round.specs.Questions.{AsksWhere, HasPathsOfIds};
+ghost use Rattle.fly_round.specs.Questions.{AsksWhere};
 ghost use Rattle.fly_round.specs.Moves as words;
 ghost use Rattle.fly_round.specs.Rounds.{first_round, with_answer, is_look_up, is_miss_reply};
 
@@ -57,10 +57,10 @@ impl<'p> Model for Round<'p> {
 impl<'p> Round<'p> {
     /// The round over a view of the plan. Goes once over the nodes and over the launches of the view.
     pub fn make(alloc: Global, p: &'p Plan, view: View) -> Result<Round<'p>, NoMemory>
-        requires of_plan { IsViewOfPlan p.now view }
-        requires ids { HasPathsOfIds p.now }
+        requires { IsViewOfPlan p.now view }
         ensures { IfOk result (λ r. r ≡ first_round p.now view) }
     {
+        p.primary();
         let attempts = attempts_of(alloc, p, &view)?;
         let broken = is_run_broken(p, &view.state);
         Ok(Round {

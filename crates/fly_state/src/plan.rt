@@ -5,6 +5,7 @@ ghost use Rattle.std.specs.Ordering.{nat_cmp};
 ghost use Rattle.std.specs.Cmp.Lexicographic.{slice_cmp};
 ghost use Rattle.fly_docs.specs.declared.node.Node as node;
 ghost use Rattle.fly_docs.specs.declared.node.Target.{out-Target};
+ghost use Rattle.fly_docs.specs.Names.{IsId};
 ghost use Rattle.fly_docs.specs.Readable.{IsTaskTarget};
 ghost use Rattle.fly_docs.specs.Closures.{bundle_of};
 ghost use Rattle.fly_docs.specs.Plans.{PlanNode};
@@ -18,7 +19,7 @@ use crate::sites::{Site, places_of_variables, sites_of};
 use crate::standing::standing_among;
 use crate::tables::{first_places, task_keys};
 use crate::{ExecState, Standing};
-use fly_docs::{Bundle, Closure, Node, Target, Task, Workflow};
+use fly_docs::{Bundle, Closure, Node, Target, Task, Workflow, is_id};
 use fly_types::{List, NoMemory, Text, TryCopy};
 use std::alloc::Global;
 use std::collections::BTreeMap;
@@ -76,7 +77,8 @@ impl Plan {
     ghost use Rattle.fly_docs.specs.TypedClosures.{IsTypedClosure};
     ghost use Rattle.fly_state.specs.PlanTables.{IsPlannable, IsOuterPlan};
 
-    /// Whether the closure is one that has a plan today: of task nodes alone, and no more than a workflow may have.
+    /// Whether the closure is one that has a plan today: of task nodes alone, with ids as names, and no more than a workflow
+    /// may have.
     pub fn expands(c: &Closure) -> bool
         ensures { IsTrue result ↔ IsPlannable c.now }
     {
@@ -85,7 +87,7 @@ impl Plan {
             return false;
         }
         for node in nodes {
-            if !is_task(node) {
+            if !is_plannable(node) {
                 return false;
             }
         }
@@ -242,6 +244,13 @@ impl Plan {
         self.primary();
         standing_among(state, self.looks(number), known)
     }
+}
+
+/// Whether it is a task node, with an id as its name.
+fn is_plannable(node: &Node) -> bool
+    ensures { IsTrue result ↔ (IsTaskTarget (out-Target node.now.target) × IsId node.now.id) }
+{
+    is_task(node) && is_id(node.id.as_str())
 }
 
 fn is_task(node: &Node) -> bool

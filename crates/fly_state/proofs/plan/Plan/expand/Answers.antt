@@ -68,6 +68,7 @@ invariant_of-result c =
       first = ap (λ (b : Bundle). slice_get b.workflows 0) docs;
       named = ap primary_of docs ∙ primary_of-bundle closure;
       plain = plannable.plain;
+      ids = plannable.ids;
       nodes_are = ap plan_of docs ∙ plan_of-closure closure plannable.plain;
       few = omega (arith, plannable.few, ap length (nodes_of-plain w plannable.plain));
       numbered = λ id. c.in_ok-numbers.ensures id ∙ ap (λ xs. node_place xs id) given;

@@ -1,12 +1,13 @@
-use Rattle.std.proofs.Common.{◌≡◌, Some, map, ap, sym, ◌∙◌, subst}
+use Rattle.std.proofs.Common.{◌≡◌, Some, map, length, ap, sym, ◌∙◌, subst}
 use Rattle.std.specs.List.{enumerate_from}
 use Rattle.fly_docs.specs.declared.workflow.Workflow.{Workflow}
 use Rattle.fly_docs.specs.Lookups.{primary_of}
 use Rattle.fly_docs.specs.Readable.{HasTaskNodes}
-use Rattle.fly_state.specs.PlanTables.{outer_node}
-use Rattle.fly_state.specs.Plans.{RunPlan}
+use Rattle.fly_state.specs.Looks.{IsLookOrder}
+use Rattle.fly_state.specs.PlanTables.{HasIds, outer_node}
+use Rattle.fly_state.specs.Plans.{RunPlan, looks}
 use Rattle.fly_docs.specs.Typed.{IsTypedWorkflow}
-use Rattle.fly_state.proofs.PlanLemmas.{workflow_is}
+use Rattle.fly_state.proofs.PlanLemmas.{workflow_is, order-of-plan}
 use Rattle.fly_state.proofs.PlanTypes.{typed_workflow}
 use Rattle.fly_state.proofs.plan.Plan.primary.Goals as goal
 
@@ -18,6 +19,11 @@ returns c =
     record {
       named = ap (λ (plan : RunPlan). primary_of plan.documents) (sym c.self.view_is) ∙ t.named ∙ ap Some (sym same);
       plain = subst HasTaskNodes (sym same) t.plain;
+      ids = subst HasIds (sym same) t.ids;
+      order = f.order;
+      order_is =
+          subst (λ (plan : RunPlan). IsLookOrder (looks plan) (length plan.nodes) f.order) c.self.view_is
+          (order-of-plan f.documents f.numbers f.sites f.order f.outputs t);
       typed =
           subst (λ (plan : RunPlan). IsTypedWorkflow plan.documents c.index-as_slice-0.result) c.self.view_is
           (subst (IsTypedWorkflow f.documents) (sym same) (typed_workflow f.documents f.numbers f.sites f.order f.outputs t));
