@@ -1,0 +1,14 @@
+mod NodeIds
+mod Firsts
+mod Nodes
+mod Forms
+mod Lists
+mod Reached
+mod Acyclic
+mod Runs
+mod Templates
+mod Fits
+mod TypedLaw
+mod Texts
+mod Summands
+mod Answering
