@@ -1,5 +1,6 @@
 -- How commands end.
-use Rattle.std.proofs.Common.{◌≡◌, ◌≢◌, ◌⊎◌, ℕ, List, [], Option, Some, None, Result, Ok, Err, IfOk, MatchResult, String, Global, string_bytes, subst, refl, sym, ap, ◌∙◌, inl, inr, arith}
+use Rattle.std.proofs.Common.{◌≡◌, ◌≢◌, ◌⊎◌, ℕ, decimal, List, Option, Some, None, Result, Ok, Err, IfOk, MatchResult, String, Global, string_bytes, subst, refl, sym, ap, ◌∙◌, inl, inr, arith}
+use Rattle.std.proofs.lemmas.Fmt.{decimal_injective}
 use Rattle.fly_types.specs.declared.memory.NoMemory.{NoMemory}
 use Rattle.fly_ports.specs.Faults.{Rises}
 use Rattle.fly_ports.specs.Files.{Contents, FilesState, Lacks, FailsToRead}
@@ -17,13 +18,13 @@ use Rattle.fly_idl.specs.Rows.{bundle_form}
 use Rattle.fly_faults.specs.FaultList.{faults_of}
 use Rattle.fly_app.specs.declared.status.Status.{Status}
 use Rattle.fly_app.specs.declared.status.Status.TheVariants as statuses
-use Rattle.fly_app.specs.Words.{Request, compile, help, version, IsCompile, IsRequest, IsFirstWrong}
-use Rattle.fly_app.specs.Outside.{outside, Outside, IsContent, IsTold, IsUnread, ReadsAll, WritesAll}
+use Rattle.fly_app.specs.Words.{Request, compile, make, help, version, IsRequest}
+use Rattle.fly_app.specs.Outside.{outside, Outside, IsContent, IsTold, IsUnread, WritesAll}
 use Rattle.fly_app.specs.Printing.{PrintsText, SaysLine, FailsToSay, no_memory_text}
 use Rattle.fly_app.specs.declared.compiling.Unanswered.{Unanswered}
 use Rattle.fly_app.specs.declared.compiling.Unanswered.TheVariants as unanswered
 use Rattle.fly_app.specs.Compiling.{CompilesFile}
-use Rattle.fly_app.specs.Answers.{HasClosure, HasDocumentFault, HasBundleFaults, Answer, Text, WrongWord, Refusal, Unread, HasText, HasRefusal, Wants, Asks, status_of, SaysOnly, SaysPart, Prints, FailsToPrint, HasDone, IsKnown, IsAbsent, IsDue, EndsWith, RunsCommand}
+use Rattle.fly_app.specs.Answers.{HasClosure, Answer, Text, WrongWord, Refusal, Unread, HasText, HasRefusal, Wants, Asks, status_of, SaysOnly, SaysPart, Prints, FailsToPrint, HasDone, IsKnown, IsAbsent, IsDue, EndsWith, RunsCommand}
 
 -- ---- what a run of a command has done
 
@@ -77,12 +78,22 @@ unread_of old new path fault is why = rw is at why
 -- words ask for one thing
 one_request : (words : List (List ℕ)) (r s : Request) → IsRequest words r → IsRequest words s → r ≡ s
 one_request words (compile p) (compile q) a b = let same = sym a.spelled ∙ b.spelled in cc same
+one_request words (compile p) (make n) a b = let same = sym a.spelled ∙ b.spelled in absurd (cc same)
 one_request words (compile p) help a b = let same = sym a.spelled ∙ b in absurd (cc same)
 one_request words (compile p) version a b = let same = sym a.spelled ∙ b in absurd (cc same)
+one_request words (make m) (compile q) a b = let same = sym a.spelled ∙ b.spelled in absurd (cc same)
+one_request words (make m) (make n) a b =
+    let same = sym a.spelled ∙ b.spelled in
+    let written : decimal m ≡ decimal n = cc same in
+    ap make (decimal_injective m n (omega (arith, a.few)) (omega (arith, b.few)) written)
+one_request words (make m) help a b = let same = sym a.spelled ∙ b in absurd (cc same)
+one_request words (make m) version a b = let same = sym a.spelled ∙ b in absurd (cc same)
 one_request words help (compile q) a b = let same = sym a ∙ b.spelled in absurd (cc same)
+one_request words help (make n) a b = let same = sym a ∙ b.spelled in absurd (cc same)
 one_request words help help a b = refl
 one_request words help version a b = let same = sym a ∙ b in absurd (cc same)
 one_request words version (compile q) a b = let same = sym a ∙ b.spelled in absurd (cc same)
+one_request words version (make n) a b = let same = sym a ∙ b.spelled in absurd (cc same)
 one_request words version help a b = let same = sym a ∙ b in absurd (cc same)
 one_request words version version a b = refl
 
@@ -142,6 +153,7 @@ refusal_content contents path lines (inr faults) = (faults.file, faults.content)
 -- of a request that is known, one answer is the right one
 text_only : (r : Request) (old new : FilesState) (text lines : List ℕ) → IsKnown r old new → HasText old.contents r text → HasRefusal old.contents r lines → ⊥
 text_only (compile path) old new text lines known has refusal = text_refused old.contents path text lines known.0 has refusal
+text_only (make count) old new text lines known has refusal = refusal
 text_only help old new text lines known has refusal = refusal
 text_only version old new text lines known has refusal = refusal
 
@@ -149,6 +161,7 @@ text_read : (r : Request) (old new : FilesState) (text path : List ℕ) → IsKn
 text_read (compile p) old new text path known has wants (inl fails) = known.1 fails.read_faults
 text_read (compile p) old new text path known has wants (inr lacks) =
     not_lacking old.contents p has.file known.0 has.content (subst (λ (q : List ℕ). Lacks old.contents q) wants lacks.1)
+text_read (make count) old new text path known has wants unread = wants
 text_read help old new text path known has wants unread = wants
 text_read version old new text path known has wants unread = wants
 
@@ -157,12 +170,14 @@ refusal_read (compile p) old new lines path known has wants (inl fails) = known.
 refusal_read (compile p) old new lines path known has wants (inr lacks) =
     let content = refusal_content old.contents p lines has in
     not_lacking old.contents p content.0 known.0 content.1 (subst (λ (q : List ℕ). Lacks old.contents q) wants lacks.1)
+refusal_read (make count) old new lines path known has wants unread = wants
 refusal_read help old new lines path known has wants unread = wants
 refusal_read version old new lines path known has wants unread = wants
 
 absent_text : (r : Request) (contents : Option Contents) (text path : List ℕ) → Wants r path → IsAbsent contents path → HasText contents r text → ⊥
 absent_text (compile p) contents text path wants absent has =
     absent_lacks contents p has.file (subst (λ (q : List ℕ). IsAbsent contents q) wants absent) has.content
+absent_text (make count) contents text path wants absent has = wants
 absent_text help contents text path wants absent has = wants
 absent_text version contents text path wants absent has = wants
 
@@ -170,6 +185,7 @@ absent_refusal : (r : Request) (contents : Option Contents) (lines path : List �
 absent_refusal (compile p) contents lines path wants absent has =
     let content = refusal_content contents p lines has in
     absent_lacks contents p content.0 (subst (λ (q : List ℕ). IsAbsent contents q) wants absent) content.1
+absent_refusal (make count) contents lines path wants absent has = wants
 absent_refusal help contents lines path wants absent has = wants
 absent_refusal version contents lines path wants absent has = wants
 

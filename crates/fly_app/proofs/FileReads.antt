@@ -1,5 +1,5 @@
 -- What is known of a file from its first bytes.
-use Rattle.std.proofs.Common.{◌≡◌, ◌≢◌, ◌⊎◌, ℕ, ◌+◌, ◌<◌, ◌≤◌, List, length, take, Option, None, Some, option_map, IfSome, IfOk, IfErr, Result, Ok, Err, Vec, Global, string_bytes, inl, inr, ap, subst, refl, sym, ◌∙◌, arith}
+use Rattle.std.proofs.Common.{◌≡◌, ◌≢◌, ◌⊎◌, ℕ, ◌+◌, ◌<◌, ◌≤◌, List, length, take, Option, None, Some, option_map, IfSome, IfOk, IfErr, Result, Ok, Err, Vec, Global, string_bytes, inl, inr, ap, refl, sym, ◌∙◌, arith}
 use Rattle.std.proofs.lemmas.List.{length-take, take_all}
 use Rattle.fly_ports.specs.Files.{Contents, FilesState}
 use Rattle.fly_docs.specs.declared.workflow.Bundle.{Bundle}
@@ -11,7 +11,7 @@ use Rattle.fly_idl.specs.Reading.{document_limit, ReadsBundle, IsFirstFault, too
 use Rattle.fly_idl.specs.Rows.{bundle_form}
 use Rattle.fly_faults.specs.Laws.{NoFaultsExactlyWhereTyped}
 use Rattle.fly_app.specs.Outside.{IsContent}
-use Rattle.fly_app.specs.Answers.{HasClosure, HasDocumentFault, HasBundleFaults}
+use Rattle.fly_app.specs.Answers.{HasDocumentFault}
 use Rattle.fly_app.specs.declared.compiling.Unanswered.{Unanswered}
 use Rattle.fly_app.specs.declared.compiling.Unanswered.TheVariants as unanswered
 use Rattle.fly_app.specs.Compiling.{RefusesBytes, RefusesBundle, HasTextOf, CompilesFile}

@@ -1,9 +1,11 @@
 -- The first wrong word, by what the words begin with.
-use Rattle.std.proofs.Common.{◌≡◌, ◌≢◌, ℕ, List, [], ◌∷◌, length, suc, ◌==◌, Bool, true, false, true≢false, ◌⊎◌, inl, inr, codes, refl, sym, ap, ◌∙◌, arith}
+use Rattle.std.proofs.Common.{◌≡◌, ◌≢◌, ℕ, ◌<◌, ◌≤◌, ◌^◌, List, [], ◌∷◌, length, suc, ◌==◌, Bool, true, false, true≢false, ◌⊎◌, inl, inr, codes, decimal, refl, sym, ap, ◌∙◌, arith}
 use Rattle.std.specs.Str.{bytes_eq}
 use Rattle.std.proofs.lemmas.Bool.Decides.{nat_tests}
+use Rattle.std.proofs.lemmas.Fmt.{decimal_injective}
 use Rattle.std.proofs.lemmas.Slice.Eq.{bytes_eq-Decides}
-use Rattle.fly_app.specs.Words.{is_option, Request, compile, help, version, IsCompile, IsRequest, IsCommand, IsFirstWrong}
+use Rattle.fly_generator.specs.Generated.{most_nodes}
+use Rattle.fly_app.specs.Words.{is_option, Request, compile, make, help, version, IsCompile, IsRequest, IsCommand, IsFirstWrong}
 
 -- any file will do, as the one without a name
 command_at : (path : List ℕ) → is_option path ≡ false → IsCommand (codes "compile" ∷ path ∷ [])
@@ -11,6 +13,7 @@ command_at path h = (compile path, record { spelled = refl; file = h })
 
 no_words : (r : Request) → IsRequest [] r → ⊥
 no_words (compile path) is = absurd (cc is.spelled)
+no_words (make count) is = absurd (cc is.spelled)
 no_words help is = absurd (cc is)
 no_words version is = absurd (cc is)
 
@@ -23,25 +26,29 @@ wrong_empty = record {
 }
 
 -- a word that begins no command
-not_first : (command : List ℕ) (rest : List (List ℕ)) → command ≢ codes "compile" → command ≢ codes "--help" → command ≢ codes "--version" → (r : Request)
-    → IsRequest (command ∷ rest) r → ⊥
-not_first command rest a b c (compile path) is = a (cc is.spelled)
-not_first command rest a b c help is = b (cc is)
-not_first command rest a b c version is = c (cc is)
+not_first : (command : List ℕ) (rest : List (List ℕ)) → command ≢ codes "compile" → command ≢ codes "make"
+    → command ≢ codes "--help" → command ≢ codes "--version"
+    → (r : Request) → IsRequest (command ∷ rest) r → ⊥
+not_first command rest a m b c (compile path) is = a (cc is.spelled)
+not_first command rest a m b c (make count) is = m (cc is.spelled)
+not_first command rest a m b c help is = b (cc is)
+not_first command rest a m b c version is = c (cc is)
 
-pub wrong_command : (command : List ℕ) (rest : List (List ℕ)) → command ≢ codes "compile" → command ≢ codes "--help" → command ≢ codes "--version"
-    → IsFirstWrong (command ∷ rest) 0
-wrong_command command rest a b c = record {
+pub wrong_command : (command : List ℕ) (rest : List (List ℕ)) → command ≢ codes "compile" → command ≢ codes "make"
+    → command ≢ codes "--help"
+    → command ≢ codes "--version" → IsFirstWrong (command ∷ rest) 0
+wrong_command command rest a m b c = record {
   right = (codes "compile" ∷ [] ∷ [], command_at [] refl);
   within = omega arith;
-  next = λ h begun. not_first command begun.0 a b c begun.1.0 begun.1.1;
-  whole = λ w. not_first command rest a b c w.0 w.1;
+  next = λ h begun. not_first command begun.0 a m b c begun.1.0 begun.1.1;
+  whole = λ w. not_first command rest a m b c w.0 w.1;
 }
 
 -- ---- behind `compile`
 
 no_file : (r : Request) → IsRequest (codes "compile" ∷ []) r → ⊥
 no_file (compile path) is = absurd (cc is.spelled)
+no_file (make count) is = absurd (cc is.spelled)
 no_file help is = absurd (cc is)
 no_file version is = absurd (cc is)
 
@@ -55,6 +62,7 @@ wrong_missing = record {
 
 not_option : (path : List ℕ) (rest : List (List ℕ)) → is_option path ≡ true → (r : Request) → IsRequest (codes "compile" ∷ path ∷ rest) r → ⊥
 not_option path rest option (compile p) is = let same : path ≡ p = cc is.spelled in true≢false (sym option ∙ ap is_option same ∙ is.file)
+not_option path rest option (make count) is = absurd (cc is.spelled)
 not_option path rest option help is = absurd (cc is)
 not_option path rest option version is = absurd (cc is)
 
@@ -68,6 +76,7 @@ wrong_option path rest option = record {
 
 not_third : (path word : List ℕ) (rest : List (List ℕ)) → (r : Request) → IsRequest (codes "compile" ∷ path ∷ word ∷ rest) r → ⊥
 not_third path word rest (compile p) is = absurd (cc is.spelled)
+not_third path word rest (make count) is = absurd (cc is.spelled)
 not_third path word rest help is = absurd (cc is)
 not_third path word rest version is = absurd (cc is)
 
@@ -79,10 +88,66 @@ wrong_third path word rest file = record {
   whole = λ w. not_third path word rest w.0 w.1;
 }
 
+-- ---- behind `make`
+
+-- any number will do, as 1
+make_at : (count : ℕ) → 1 ≤ count → count ≤ most_nodes → IsCommand (codes "make" ∷ decimal count ∷ [])
+make_at count some few = (make count, record { spelled = refl; some = some; few = few })
+
+no_number : (r : Request) → IsRequest (codes "make" ∷ []) r → ⊥
+no_number (compile path) is = absurd (cc is.spelled)
+no_number (make count) is = absurd (cc is.spelled)
+no_number help is = absurd (cc is)
+no_number version is = absurd (cc is)
+
+pub wrong_missing_number : IsFirstWrong (codes "make" ∷ []) 1
+wrong_missing_number = record {
+  right = (decimal 1 ∷ [], make_at 1 (omega arith) (omega arith));
+  within = omega arith;
+  next = λ h. absurd (omega arith);
+  whole = λ w. no_number w.0 w.1;
+}
+
+-- the word is the number of no workflow that is generated
+abbrev pub IsNoCount : List ℕ → Type 0
+IsNoCount word = (n : ℕ) → 1 ≤ n → n ≤ most_nodes → word ≢ decimal n
+
+not_count : (word : List ℕ) (rest : List (List ℕ)) → IsNoCount word → (r : Request)
+    → IsRequest (codes "make" ∷ word ∷ rest) r → ⊥
+not_count word rest none (compile path) is = absurd (cc is.spelled)
+not_count word rest none (make count) is = none count is.some is.few (cc is.spelled)
+not_count word rest none help is = absurd (cc is)
+not_count word rest none version is = absurd (cc is)
+
+pub wrong_count : (word : List ℕ) (rest : List (List ℕ)) → IsNoCount word → IsFirstWrong (codes "make" ∷ word ∷ rest) 1
+wrong_count word rest none = record {
+  right = (decimal 1 ∷ [], make_at 1 (omega arith) (omega arith));
+  within = omega arith;
+  next = λ h begun. not_count word begun.0 none begun.1.0 begun.1.1;
+  whole = λ w. not_count word rest none w.0 w.1;
+}
+
+not_behind_count : (number word : List ℕ) (rest : List (List ℕ)) → (r : Request)
+    → IsRequest (codes "make" ∷ number ∷ word ∷ rest) r → ⊥
+not_behind_count number word rest (compile path) is = absurd (cc is.spelled)
+not_behind_count number word rest (make count) is = absurd (cc is.spelled)
+not_behind_count number word rest help is = absurd (cc is)
+not_behind_count number word rest version is = absurd (cc is)
+
+wrong_behind_count : (count : ℕ) (word : List ℕ) (rest : List (List ℕ)) → 1 ≤ count → count ≤ most_nodes
+    → IsFirstWrong (codes "make" ∷ decimal count ∷ word ∷ rest) 2
+wrong_behind_count count word rest some few = record {
+  right = ([], make_at count some few);
+  within = omega arith;
+  next = λ h begun. not_behind_count (decimal count) word begun.0 begun.1.0 begun.1.1;
+  whole = λ w. not_behind_count (decimal count) word rest w.0 w.1;
+}
+
 -- ---- behind `--help` and `--version`
 
 not_behind_help : (word : List ℕ) (rest : List (List ℕ)) → (r : Request) → IsRequest (codes "--help" ∷ word ∷ rest) r → ⊥
 not_behind_help word rest (compile p) is = absurd (cc is.spelled)
+not_behind_help word rest (make count) is = absurd (cc is.spelled)
 not_behind_help word rest help is = absurd (cc is)
 not_behind_help word rest version is = absurd (cc is)
 
@@ -96,6 +161,7 @@ wrong_behind_help word rest = record {
 
 not_behind_version : (word : List ℕ) (rest : List (List ℕ)) → (r : Request) → IsRequest (codes "--version" ∷ word ∷ rest) r → ⊥
 not_behind_version word rest (compile p) is = absurd (cc is.spelled)
+not_behind_version word rest (make count) is = absurd (cc is.spelled)
 not_behind_version word rest help is = absurd (cc is)
 not_behind_version word rest version is = absurd (cc is)
 
@@ -151,6 +217,35 @@ pub file_and_more : (rest more : List (List ℕ)) (path : List ℕ) → rest ≡
     → IsFirstWrong (codes "compile" ∷ rest) 2
 file_and_more rest more path then file some = rw then (more_words path more file some)
 
+-- ---- behind `make`, as the code splits the words
+
+pub missing_number : (rest : List (List ℕ)) → length rest ≡ 0 → IsFirstWrong (codes "make" ∷ rest) 1
+missing_number [] none = wrong_missing_number
+missing_number (w ∷ ws) none = absurd (omega arith)
+
+-- what no number was read from
+pub not_a_number : (rest more : List (List ℕ)) (word : List ℕ) → rest ≡ word ∷ more
+    → ((n : ℕ) → n < 2 ^ 32 → word ≢ decimal n)
+    → IsFirstWrong (codes "make" ∷ rest) 1
+not_a_number rest more word then none = rw then (wrong_count word more (λ n some few. none n (omega arith)))
+
+-- a number that is too small or too large
+pub no_count : (rest more : List (List ℕ)) (word : List ℕ) (count : ℕ) → rest ≡ word ∷ more → count < 2 ^ 32
+    → word ≡ decimal count
+    → (1 ≤ count → count ≤ most_nodes → ⊥) → IsFirstWrong (codes "make" ∷ rest) 1
+no_count rest more word count then small is out = rw then (wrong_count word more other_count)
+  where
+    other_count : IsNoCount word
+    other_count n some few same =
+        let one : count ≡ n = decimal_injective count n (omega arith) (omega arith) (sym is ∙ same) in
+        out (omega arith) (omega arith)
+
+pub count_and_more : (rest more : List (List ℕ)) (word : List ℕ) (count : ℕ) → rest ≡ word ∷ more
+    → word ≡ decimal count → 1 ≤ count → count ≤ most_nodes
+    → false ≡ (length more == 0) → IsFirstWrong (codes "make" ∷ rest) 2
+count_and_more rest [] word count then is some few none = absurd (true≢false (sym none))
+count_and_more rest (w ∷ ws) word count then is some few none = rw (then, is) (wrong_behind_count count w ws some few)
+
 -- ---- the first word
 
 pub empty_words : (words : List (List ℕ)) → length words ≡ 0 → IsFirstWrong words 0
@@ -171,11 +266,15 @@ named command spelled name same test = sym same ∙ agrees spelled name (bytes_e
 other : (command spelled name : List ℕ) → spelled ≡ command → false ≡ bytes_eq spelled name → command ≢ name
 other command spelled name same test is = differs spelled name test (same ∙ is)
 
-pub other_command : (words rest : List (List ℕ)) (command first second third : List ℕ) → words ≡ command ∷ rest
-    → first ≡ command → false ≡ bytes_eq first (codes "compile") → second ≡ command → false ≡ bytes_eq second (codes "--help")
-    → third ≡ command → false ≡ bytes_eq third (codes "--version") → IsFirstWrong words 0
-other_command words rest command first second third is same a then b last c =
-    rw is (wrong_command command rest (other command first (codes "compile") same a) (other command second (codes "--help") then b) (other command third (codes "--version") last c))
+pub other_command : (words rest : List (List ℕ)) (command first second third fourth : List ℕ) → words ≡ command ∷ rest
+    → first ≡ command → false ≡ bytes_eq first (codes "compile") → second ≡ command
+    → false ≡ bytes_eq second (codes "make")
+    → third ≡ command → false ≡ bytes_eq third (codes "--help") → fourth ≡ command
+    → false ≡ bytes_eq fourth (codes "--version") → IsFirstWrong words 0
+other_command words rest command first second third fourth is same a next m then b last c =
+    rw is (wrong_command command rest (other command first (codes "compile") same a)
+    (other command second (codes "make") next m)
+    (other command third (codes "--help") then b) (other command fourth (codes "--version") last c))
 
 pub request_alone : (words rest : List (List ℕ)) (command : List ℕ) (r : Request) → words ≡ command ∷ rest
     → ((r ≡ help) × (command ≡ codes "--help")) ⊎ ((r ≡ version) × (command ≡ codes "--version")) → true ≡ (length rest == 0) → IsRequest words r

@@ -2,7 +2,7 @@
 -- prints (`HasText`), and why it has none (`HasRefusal`).
 use Rattle.std.specs.Prelude.{◌≡◌, ◌≢◌, ◌⊎◌, ℕ, List, [], ◌++◌, Option, Some, None, ⊤}
 use Rattle.fly_ports.specs.Files.{Contents, FilesState, FailsToRead}
-use Rattle.fly_ports.specs.Sink.{SinkState, Writes, FailsToWrite, Tries}
+use Rattle.fly_ports.specs.Sink.{Writes, FailsToWrite, Tries}
 use Rattle.fly_docs.specs.declared.workflow.Bundle.{Bundle}
 use Rattle.fly_docs.specs.declared.closure.Closure.{Closure}
 use Rattle.fly_docs.specs.Acyclic.{RunsAcyclic}
@@ -16,10 +16,11 @@ use Rattle.fly_idl.specs.Rows.{bundle_form}
 use Rattle.fly_faults.specs.FaultList.{faults_of}
 use Rattle.fly_app.specs.declared.status.Status.{Status}
 use Rattle.fly_app.specs.declared.status.Status.TheVariants as statuses
-use Rattle.fly_app.specs.Words.{Request, compile, help, version, IsRequest, IsFirstWrong}
+use Rattle.fly_app.specs.Words.{Request, compile, make, help, version, IsRequest, IsFirstWrong}
 use Rattle.fly_app.specs.Outside.{Outside, IsContent, IsTold, IsUnread, ReadsAll, WritesAll}
 use Rattle.fly_app.specs.Printing.{newline, usage_text, document_line, fault_lines, unread_text, unwritten_text, no_memory_text, FailsToSay}
 use Rattle.fly_app.specs.Help.{help_text, version_text}
+use Rattle.fly_app.specs.Making.{IsSummary}
 
 -- ---- compile
 
@@ -68,6 +69,7 @@ pub data Answer : Type 0 where
 -- the text that a request is answered with
 abbrev pub HasText : Option Contents → Request → List ℕ → Type 0
 HasText contents (compile path) text = HasClosure contents path text
+HasText contents (make count) text = IsSummary count text
 HasText contents help text = text ≡ help_text
 HasText contents version text = text ≡ version_text
 

@@ -7,9 +7,10 @@ version_text = codes "flyte 0.1.0" ++ newline
 
 abbrev pub help_text : List ℕ
 help_text =
-    codes "flyte compiles workflows of typed tasks." ++ newline
+    codes "flyte compiles workflows of typed tasks, and runs generated ones in memory." ++ newline
     ++ newline
     ++ codes "  flyte compile BUNDLE   prints the closure of the bundle in the file BUNDLE" ++ newline
+    ++ codes "  flyte make NUMBER      runs a generated workflow of NUMBER nodes, 1 to 1024, in memory, and prints how it ended" ++ newline
     ++ codes "  flyte --help           prints this text" ++ newline
     ++ codes "  flyte --version        prints the name and the version" ++ newline
     ++ newline

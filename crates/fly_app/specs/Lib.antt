@@ -3,5 +3,8 @@ pub mod Command
 pub mod Outside
 pub mod Printing
 pub mod Help
+pub mod Phases
+pub mod InStore
+pub mod Making
 pub mod Answers
 pub mod Compiling

@@ -1,15 +1,18 @@
-ghost use Rattle.std.specs.Prelude.{List, ℕ};
+ghost use Rattle.std.specs.Prelude.{◌≤◌, List, ℕ};
+ghost use Rattle.fly_ports.specs.Files.{FilesState};
 ghost use Rattle.fly_app.specs.Outside.{outside};
 ghost use Rattle.fly_app.specs.Answers.{HasDone, RunsCommand};
-ghost use Rattle.fly_app.specs.Words.{IsCompile};
+ghost use Rattle.fly_app.specs.Words.{IsCompile, IsMake};
+ghost use Rattle.fly_generator.specs.Generated.{most_nodes};
 
 use crate::Status;
 use crate::compiling::{Unanswered, closure_of_file};
 use crate::help::{HELP, VERSION};
+use crate::making::summary_of;
 use crate::printing::{out_of_memory, print, say, unread_line, usage_line};
 use crate::words::{Command, read_words};
 use fly_ports::{Files, Sink};
-use fly_types::Text;
+use fly_types::{NoMemory, Text};
 use std::alloc::Global;
 
 /// Prints the closure of the bundle in a file, or says why there is none.
@@ -32,8 +35,23 @@ fn compile<F: Files, O: Sink, E: Sink>(
     }
 }
 
+/// Prints how a run of the generated workflow of so many nodes ended.
+fn make<R, O: Sink, E: Sink>(rt: &R, alloc: Global, count: u32, out: &mut O, err: &mut E) -> Status
+    requires some { 1 ≤ count }
+    requires few { count ≤ most_nodes }
+    ensures { (words : List (List ℕ)) (files : FilesState) → IsMake words count
+        → HasDone words (outside files (O.state out.old) (E.state err.old))
+        (outside files (O.state out.new) (E.state err.new)) result }
+{
+    match summary_of(rt, alloc, count) {
+        Ok(text) => print(out, err, text.as_bytes()),
+        Err(NoMemory) => out_of_memory(err),
+    }
+}
+
 /// Runs the command that the words are, or says why they are none.
-fn run<F: Files, O: Sink, E: Sink>(
+fn run<R, F: Files, O: Sink, E: Sink>(
+    rt: &R,
     alloc: Global,
     words: &[Text],
     files: &mut F,
@@ -45,15 +63,16 @@ fn run<F: Files, O: Sink, E: Sink>(
 {
     match read_words(words) {
         Ok(Command::Compile(path)) => compile(alloc, path, files, out, err),
+        Ok(Command::Make(count)) => make(rt, alloc, count, out, err),
         Ok(Command::Help) => print(out, err, HELP.as_bytes()),
         Ok(Command::Version) => print(out, err, VERSION.as_bytes()),
         Err(word) => say(err, usage_line(alloc, word), Status::Usage),
     }
 }
 
-/// Runs a command that starts no task. What it prints goes to `out`, and why there is nothing to print to `err`.
+/// Runs a command that starts no program. What it prints goes to `out`, and why there is nothing to print to `err`.
 pub fn plain<R, F: Files, O: Sink, E: Sink>(
-    _rt: &R,
+    rt: &R,
     alloc: Global,
     words: &[Text],
     files: &mut F,
@@ -63,5 +82,5 @@ pub fn plain<R, F: Files, O: Sink, E: Sink>(
     ensures { RunsCommand words.now (outside (F.state files.old) (O.state out.old) (E.state err.old))
         (outside (F.state files.new) (O.state out.new) (E.state err.new)) result }
 {
-    run(alloc, words, files, out, err)
+    run(rt, alloc, words, files, out, err)
 }

@@ -4,8 +4,12 @@
 mod commands;
 mod compiling;
 mod help;
+mod in_store;
+mod making;
+mod phases;
 mod printing;
 mod status;
+mod summary;
 mod top;
 mod words;
 
