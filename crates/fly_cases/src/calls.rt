@@ -35,7 +35,8 @@ pub fn make_call<W: Write>(alloc: Global, line: &Value, writer: &mut W) -> Resul
     Ok(())
 }
 
-fn text_under<'a>(line: &'a Value, key: &str) -> Result<&'a str> {
+/// The text that a line has under a key.
+pub fn text_under<'a>(line: &'a Value, key: &str) -> Result<&'a str> {
     line.get(key)
         .and_then(Value::as_str)
         .context("a line that lacks a text")

@@ -43,6 +43,19 @@ pub fn literal_and_type(
     union_parts(alloc, literal.as_str(), kind)
 }
 
+/// A `Literal` in JSON.
+pub fn literal_under(alloc: Global, literal: Option<&Value>) -> Result<Literal> {
+    let literal = literal
+        .context("a line without a literal")?
+        .to_string(alloc)?;
+    let text = format!(in alloc; r#"{{"literals":{{"l":{literal}}}}}"#)?;
+    let literals = literals_in(alloc, text.as_bytes()).map_err(unread)?;
+    match literals.entries.into_vec().pop() {
+        Some((_, literal)) => Ok(literal),
+        None => bail!("no literal"),
+    }
+}
+
 /// A `LiteralType` in JSON.
 pub fn type_under(alloc: Global, kind: Option<&Value>) -> Result<LiteralType> {
     let (_, kind) = union_parts(alloc, r#"{"scalar":{"noneType":{}}}"#, kind)?;
