@@ -286,5 +286,6 @@ module _ {K : Type 0} (kept kept_part : K → List Entry → K → Type 0) (faul
           passed.number,
           count_within,
         );
+        begun = omega (arith, length-append goes.turns (last.calls ∷ []), goes.count_is, passed.number);
         few_reads = omega (arith, reads_few, passed.number, count_within);
       }

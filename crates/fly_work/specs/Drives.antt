@@ -1,6 +1,6 @@
 -- What it means to drive a run alone: turns one after another until one finds every execution over, fails to keep or finds
 -- no memory.
-use Rattle.std.specs.Prelude.{◌≡◌, ◌≤◌, ◌+◌, ◌*◌, ℕ, true, false, List, [], ◌∷◌, ◌++◌, All, flat_map, length, Result, Ok, Err}
+use Rattle.std.specs.Prelude.{◌≡◌, ◌≤◌, ◌<◌, ◌+◌, ◌*◌, ℕ, true, false, List, [], ◌∷◌, ◌++◌, All, flat_map, length, Result, Ok, Err}
 use Rattle.fly_ports.specs.Faults.{Rises}
 use Rattle.fly_docs.specs.declared.task.Task.{Task}
 use Rattle.fly_state.specs.declared.entries.Entry.{Entry}
@@ -44,8 +44,9 @@ EndsDrive faults old new store whole (Ok _) = (are_all_over store.world ≡ true
 EndsDrive faults old new store whole (Err fault.Keep) = Rises (faults old) (faults new)
 EndsDrive faults old new store whole (Err fault.NoMemory) = Unit {0}
 
--- A worker that drove a run alone, around so many executions, looking back at most so many versions: its turns from number 0 on, what their
--- calls have done, and how it ended. It has begun no more passes than the bound, each of so many turns as there are executions, and counted each.
+-- A worker that drove a run alone, around so many executions, looking back at most so many versions: its turns from
+-- number 0 on, what their calls have done, and how it ended. It has begun no more passes than the bound, each of which
+-- made a turn, and no more turns than there are executions; and it counted each pass.
 pub record DrivesAlone {K : Type 0} (kept kept_part : K → List Entry → K → Type 0) (faults : K → ℕ) (lag : ℕ)
     (store new_store : Kept) (before after : Outside K) (steps new_steps : ℕ) (result : Result (Unit {0}) DriveFault) : Type 0 where
   pub turns : List (List Told)
@@ -57,4 +58,5 @@ pub record DrivesAlone {K : Type 0} (kept kept_part : K → List Entry → K →
   pub counted : new_steps ≡ steps + passes
   pub bounded : passes ≤ pass_bound store.plan new_store.world lag
   pub few_turns : length turns ≤ length store.world.executions * passes
+  pub begun : length store.world.executions * passes < length turns + length store.world.executions
   pub few_reads : length (reads_of (flat_map (λ calls. calls) turns)) ≤ length store.world.executions * passes

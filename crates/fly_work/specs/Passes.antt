@@ -67,11 +67,11 @@ pub record GoesInPass {K : Type 0} (kept kept_part : K → List Entry → K → 
       → progress store.plan store.world < progress store.plan new_store.world
 
 -- by what a pass answers: as many turns as there are executions went on, or one ended the drive
-abbrev pub Passes : {K : Type 0} → (K → List Entry → K → Type 0) → (K → List Entry → K → Type 0) → (K → ℕ) → ℕ → ℕ
+abbrev pub MakesPass : {K : Type 0} → (K → List Entry → K → Type 0) → (K → List Entry → K → Type 0) → (K → ℕ) → ℕ → ℕ
     → Kept → Kept → Outside K → Outside K → Option (Result (Unit {0}) DriveFault) → Type 0
-Passes kept kept_part faults lag first store new_store before after None =
+MakesPass kept kept_part faults lag first store new_store before after None =
     GoesInPass kept kept_part faults lag first (length store.world.executions) store new_store before after
-Passes kept kept_part faults lag first store new_store before after (Some result) =
+MakesPass kept kept_part faults lag first store new_store before after (Some result) =
     EndsPass kept kept_part faults lag first store new_store before after result
 
 -- So many passes that went on are behind, since the drive began: their turns, each step counted, and no more of them

@@ -3,7 +3,7 @@ ghost use Rattle.fly_state.specs.Plans.{RunPlan};
 ghost use Rattle.fly_world.specs.World.{unsettled};
 ghost use Rattle.fly_work.specs.Playing.{worker_outside};
 ghost use Rattle.fly_work.specs.Drives.{DrivesAlone, IsUncached};
-ghost use Rattle.fly_work.specs.Passes.{Passes};
+ghost use Rattle.fly_work.specs.Passes.{MakesPass};
 
 use crate::{Keep, Steps, TurnEnd, turn_alone};
 use fly_ports::{Clock, Gate, Hand, Spawner};
@@ -74,7 +74,7 @@ fn pass<R, K: Keep, S: Spawner, C: Clock, G: Gate>(
     requires settled { unsettled w.old.world ≡ None }
     requires uncached { IsUncached p.now }
     requires later { 3 * first ≤ length w.old.world.entries }
-    ensures passes { Passes K.kept K.kept_part K.faults lag first w.old w.new
+    ensures passes { MakesPass K.kept K.kept_part K.faults lag first w.old w.new
         (worker_outside (C.state hand.old.clock) (S.state hand.old.spawner) keep.old)
         (worker_outside (C.state hand.new.clock) (S.state hand.new.spawner) keep.new) result }
     ensures takes { (plan : RunPlan) → K.takes keep.old plan → K.takes keep.new plan }
