@@ -22,7 +22,7 @@ reply_fields (reply.Viewed exec version current) =
     (codes "exec", Some (string exec)) ∷
     (codes "version", Some (count_json version)) ∷
     (codes "current", Some (count_json current)) ∷ []
-reply_fields (reply.Hit content) = (codes "content", Some (literal_map_json content)) ∷ []
+reply_fields (reply.Hit content) = (codes "found", Some (literal_map_json content)) ∷ []
 reply_fields (reply.Granted expiry) = (codes "expiry", Some (number (of_integer expiry))) ∷ []
 reply_fields (reply.HeldBy owner expiry) =
     (codes "owner", Some (string owner)) ∷

@@ -62,7 +62,7 @@ pub fn put_reply(object: &mut Object, reply: &Reply) -> Result<(), NoMemory>
             object.count("version", *version)?;
             object.count("current", *current)
         }
-        Reply::Hit(content) => object.literals("content", content),
+        Reply::Hit(content) => object.literals("found", content),
         Reply::Granted(expiry) => object.moment("expiry", *expiry),
         Reply::HeldBy(owner, expiry) => {
             object.text("owner", owner.as_str())?;
