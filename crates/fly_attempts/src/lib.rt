@@ -4,8 +4,6 @@
 mod attempts;
 mod launches;
 mod parts;
-#[cfg(test)]
-mod tests;
 
 pub use attempts::Attempts;
 pub use parts::{Ending, Handout, Launch};

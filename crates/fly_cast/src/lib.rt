@@ -6,8 +6,6 @@ mod conversion;
 mod fitting;
 mod laws;
 mod plan;
-#[cfg(test)]
-mod tests;
 
 pub use castable::is_castable;
 pub use conversion::{ConvertFault, convert};

@@ -10,8 +10,6 @@ mod parts;
 mod requests;
 mod reservations;
 mod table;
-#[cfg(test)]
-mod tests;
 
 pub use cached::{cached_dataset, cached_tag, owner_of};
 pub use catalog::Catalog;

@@ -12,8 +12,6 @@ mod naming;
 mod node;
 mod submission;
 mod task;
-#[cfg(test)]
-mod tests;
 mod workflow;
 
 pub use attempt_name::AttemptName;

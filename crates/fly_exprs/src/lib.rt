@@ -5,8 +5,6 @@ mod expr;
 mod faults;
 mod laws;
 mod lookup;
-#[cfg(test)]
-mod tests;
 mod truth_value;
 
 pub use expr::{Comparison, Conjunction, Expr, Operand};

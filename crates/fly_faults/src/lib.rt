@@ -8,8 +8,6 @@ mod output_type;
 mod report;
 mod template_faults;
 mod templates;
-#[cfg(test)]
-mod tests;
 mod type_text;
 
 pub use fault::{Code, CompileFault, Fault};

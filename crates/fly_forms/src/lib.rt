@@ -6,7 +6,5 @@ mod bindings;
 mod bundle;
 mod conditions;
 mod nodes;
-#[cfg(test)]
-mod tests;
 
 pub use bundle::is_bundle_in_form;

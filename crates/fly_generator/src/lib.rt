@@ -4,8 +4,6 @@
 mod adder;
 mod generated;
 mod laws;
-#[cfg(test)]
-mod tests;
 
 pub use adder::Adder;
 pub use generated::{MAX_NODES, generate};

@@ -9,8 +9,6 @@ mod adjacency;
 mod components;
 mod faults;
 mod orders;
-#[cfg(test)]
-mod tests;
 mod walks;
 
 use crate::adjacency::Adjacency;

@@ -4,8 +4,6 @@
 mod documents;
 mod readers;
 mod rows;
-#[cfg(test)]
-mod tests;
 
 pub use documents::DOCUMENT_LIMIT;
 pub use fly_schema::{DocFault, DocKind};

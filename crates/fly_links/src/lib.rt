@@ -16,8 +16,6 @@ mod run_size;
 mod runs;
 mod search;
 mod tables;
-#[cfg(test)]
-mod tests;
 mod totals;
 
 pub use closing::closure_of;

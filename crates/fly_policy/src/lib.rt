@@ -5,8 +5,6 @@ mod heard;
 mod items;
 mod outcome;
 mod retries;
-#[cfg(test)]
-mod tests;
 mod timeouts;
 
 pub use heard::Heard;

@@ -11,6 +11,3 @@ pub fn rules_have_one_solution<V>()
     ensures only { (rule : Rule V) (count : ℕ) (f g : ℕ → V) → IsGrounded rule.looks count
         → IsSolution rule count f → IsSolution rule count g → (v : ℕ) → v < count → f v ≡ g v }
 {}
-
-#[cfg(test)]
-mod tests;

@@ -5,8 +5,6 @@ mod binary;
 mod datetime;
 mod digits;
 mod duration;
-#[cfg(test)]
-mod tests;
 mod whole;
 
 pub use binary::{read_bytes, write_bytes};

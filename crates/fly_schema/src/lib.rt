@@ -8,8 +8,6 @@ mod rules;
 mod scalars;
 mod structs;
 mod table;
-#[cfg(test)]
-mod tests;
 mod walk;
 
 pub use fault::{DocFault, DocKind};

@@ -12,8 +12,6 @@ mod membership;
 mod memory;
 mod said;
 mod same;
-#[cfg(test)]
-mod tests;
 mod text;
 mod variable;
 

@@ -8,8 +8,6 @@ mod interfaces;
 mod lists;
 mod literals;
 mod scalars;
-#[cfg(test)]
-mod tests;
 mod trees;
 mod types;
 

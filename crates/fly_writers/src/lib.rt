@@ -9,8 +9,6 @@ mod json;
 mod literals;
 mod message;
 mod nodes;
-#[cfg(test)]
-mod tests;
 mod types;
 
 pub use closures::write_closure;
