@@ -1,3 +1,4 @@
 mod ListClockLemmas
 mod MemFilesLemmas
+mod OsSpawnerLemmas
 pub mod Parts

@@ -4,6 +4,8 @@ pub mod Files
 pub mod ListClock
 pub mod MemFiles
 pub mod MemSink
+pub mod OsClock
+pub mod OsSpawner
 pub mod Sink
 pub mod Spawner
 pub mod System

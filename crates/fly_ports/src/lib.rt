@@ -9,13 +9,13 @@ mod gate;
 mod list_clock;
 mod memory_files;
 mod memory_sink;
+mod os_clock;
+mod os_spawner;
 mod room;
 mod sink;
 mod spawner;
 mod system;
 mod table_spawner;
-#[cfg(test)]
-mod tests;
 
 pub use clock::Clock;
 pub use faults::{ReadFault, SpawnFault, WriteFault};
@@ -24,6 +24,8 @@ pub use gate::{Gate, Hand, OpenGate, Point};
 pub use list_clock::ListClock;
 pub use memory_files::{MemFile, MemFiles};
 pub use memory_sink::MemSink;
+pub use os_clock::OsClock;
+pub use os_spawner::OsSpawner;
 pub use sink::Sink;
 pub use spawner::{Ended, MAX_OUTPUT, Run, Spawner};
 pub use system::{OsFiles, OsSink};

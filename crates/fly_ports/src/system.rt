@@ -150,7 +150,7 @@ impl<W: Write> OsSink<W> {
     }
 }
 
-fn write_out<W: Write>(writer: &mut W, bytes: &[u8]) -> io::Result<()>
+pub(crate) fn write_out<W: Write>(writer: &mut W, bytes: &[u8]) -> io::Result<()>
     ensures { OnOk result (Appends (W.contents writer.old) (W.contents writer.new) bytes.now) }
 {
     writer.write_all(bytes)?;
