@@ -35,7 +35,7 @@ use Rattle.fly_state.specs.Standing.{standing_of, is_at_rest, is_settled}
 use Rattle.fly_state.specs.Inputs.{inputs_of_node, value_in, fault_code, count_of_items, choice_of}
 use Rattle.fly_state.specs.declared.effects.Effect.{Effect}
 use Rattle.fly_state.specs.Moves.{of_slot, where_true, is_queued, run_slot, new_item, no_places, may_run, is_cached, attempt_limit, outcome_in, slot_after, settled_slot, success_phase, retried_slot, failed_slot, is_ready, inputs_when, begun_slot, queued_slot, chosen_slot, no_case_slot, input_failed_slot, skipped_slot, run_task_effect, run_array_effect, run_effect, hit_content, hit_slot, is_succeeding, is_stored, stored_slot, item_ends, array_outputs, min_successes_of, succeeded_slot, task_run_by, closed_array_slot, branch_after, closed_branch_slot, has_failure, misses_output, slot_with_outputs, closed_instance_slot, closed_node_slot, aborted_slot, is_retryable, node_effect, item_effect, root_effect}
-use Rattle.fly_world.specs.Versions.{IsComplete, AreAllComplete}
+use Rattle.fly_world.specs.Versions.{IsComplete, AreAllComplete, is_root_phase}
 use Rattle.fly_world.proofs.EffectLemmas.{in_some, in_where, in_map, in_then, in_cond, in_either, passed}
 
 -- ---- slots
@@ -238,35 +238,36 @@ aborted-complete slot x h =
 -- ---- the root
 
 module _ (plan : RunPlan) (s : ExecState) where
-  abbrev HasInputs : SlotState → Type 0
-  HasInputs x = x.inputs ≡ s.root.inputs
+  -- the inputs stay, and the root has succeeded or failed
+  abbrev pub IsClosedRoot : SlotState → Type 0
+  IsClosedRoot x = (x.inputs ≡ s.root.inputs) × (is_root_phase x.phase ≡ true)
 
-  outputs-inputs : (t : Taken LiteralMap) (x : SlotState) → slot_with_outputs s.root t ≡ Some x → HasInputs x
-  outputs-inputs (Ok outputs) x h = in_some HasInputs (succeeded_slot s.root outputs) refl x h
-  outputs-inputs (Err (docs.enum_outside text)) x h = in_some HasInputs
-      (failed_slot s.root (codes "EnumOutside")) refl x h
-  outputs-inputs (Err (docs.unequal_lengths first second)) x h = absurd (none-some x h)
-  outputs-inputs (Err (docs.too_many_items count)) x h = absurd (none-some x h)
-  outputs-inputs (Err docs.unknown) x h = absurd (none-some x h)
+  outputs-closed : (t : Taken LiteralMap) (x : SlotState) → slot_with_outputs s.root t ≡ Some x → IsClosedRoot x
+  outputs-closed (Ok outputs) x h = in_some IsClosedRoot (succeeded_slot s.root outputs) (refl, refl) x h
+  outputs-closed (Err (docs.enum_outside text)) x h = in_some IsClosedRoot
+      (failed_slot s.root (codes "EnumOutside")) (refl, refl) x h
+  outputs-closed (Err (docs.unequal_lengths first second)) x h = absurd (none-some x h)
+  outputs-closed (Err (docs.too_many_items count)) x h = absurd (none-some x h)
+  outputs-closed (Err docs.unknown) x h = absurd (none-some x h)
 
-  closing-inputs : (w : Workflow) (x : SlotState)
+  closing-closed : (w : Workflow) (x : SlotState)
       → cond (has_failure plan s []) (Some (failed_slot s.root (codes "NodeFailed")))
       (cond (misses_output plan s [] w) (Some (failed_slot s.root (codes "OutputMissing")))
-      (slot_with_outputs s.root (workflow_outputs plan.documents w (known_in plan s [])))) ≡ Some x → HasInputs x
-  closing-inputs w x h =
+      (slot_with_outputs s.root (workflow_outputs plan.documents w (known_in plan s [])))) ≡ Some x → IsClosedRoot x
+  closing-closed w x h =
       let failed : SlotState = failed_slot s.root (codes "NodeFailed") in
       let missing : SlotState = failed_slot s.root (codes "OutputMissing") in
       let outputs = workflow_outputs plan.documents w (known_in plan s []) in
-      in_either HasInputs (has_failure plan s []) (Some failed)
+      in_either IsClosedRoot (has_failure plan s []) (Some failed)
       (cond (misses_output plan s [] w) (Some missing) (slot_with_outputs s.root outputs))
-      (in_some HasInputs failed refl)
-      (in_either HasInputs (misses_output plan s [] w) (Some missing) (slot_with_outputs s.root outputs)
-      (in_some HasInputs missing refl)
-      (outputs-inputs outputs)) x h
+      (in_some IsClosedRoot failed (refl, refl))
+      (in_either IsClosedRoot (misses_output plan s [] w) (Some missing) (slot_with_outputs s.root outputs)
+      (in_some IsClosedRoot missing (refl, refl))
+      (outputs-closed outputs)) x h
 
-  root-inputs : (x : SlotState) → closed_instance_slot plan s [] ≡ Some x → HasInputs x
-  root-inputs x h = in_where HasInputs (is_settled plan s []) _
-      (in_then HasInputs _ closing-inputs (workflow_in plan [])) x h
+  root-closed : (x : SlotState) → closed_instance_slot plan s [] ≡ Some x → IsClosedRoot x
+  root-closed x h = in_where IsClosedRoot (is_settled plan s []) _
+      (in_then IsClosedRoot _ closing-closed (workflow_in plan [])) x h
 
 -- ---- effects
 
@@ -377,24 +378,24 @@ item-whole plan v p item slot step.Settle e h =
 item-whole plan v p item slot step.Abort e h = (whole_slot false (aborted_slot slot) e h (aborted-complete slot)).own
 item-whole plan v p item slot _ e h = absurd (none-some e h)
 
--- the root closes with the inputs that it has
+-- the root closes with the inputs that it has, as succeeded or failed
 pub root-whole : (plan : RunPlan) (s : ExecState) (st : Step) (e : Effect) → root_effect plan s st ≡ Some e
-    → IsComplete e.slot × (e.slot.inputs ≡ s.root.inputs)
+    → IsComplete e.slot × IsClosedRoot plan s e.slot
 root-whole plan s step.Close e h =
-    let Keeps : SlotState → Type 0 = λ x. IsComplete x × (x.inputs ≡ s.root.inputs) in
+    let Keeps : SlotState → Type 0 = λ x. IsComplete x × IsClosedRoot plan s x in
     in_where (λ (f : Effect). Keeps f.slot) (is_running s.root.phase)
     (option_map of_slot (closed_instance_slot plan s []))
     (root-slot plan s) e h
   where
     root-slot : (plan : RunPlan) (s : ExecState) (e : Effect) → option_map of_slot (closed_instance_slot plan s [])
         ≡ Some e
-        → IsComplete e.slot × (e.slot.inputs ≡ s.root.inputs)
+        → IsComplete e.slot × IsClosedRoot plan s e.slot
     root-slot plan s e h = by (closed_instance_slot plan s []) refl h
       where
         by : (o : Option SlotState) → closed_instance_slot plan s [] ≡ o → option_map of_slot o ≡ Some e
-            → IsComplete e.slot × (e.slot.inputs ≡ s.root.inputs)
+            → IsComplete e.slot × IsClosedRoot plan s e.slot
         by None is h = absurd (none-some e h)
         by (Some x) is h =
-            subst (λ (f : Effect). IsComplete f.slot × (f.slot.inputs ≡ s.root.inputs)) (same_Some (of_slot x) e h)
-            (instance-complete plan s [] x is, root-inputs plan s x is)
+            subst (λ (f : Effect). IsComplete f.slot × IsClosedRoot plan s f.slot) (same_Some (of_slot x) e h)
+            (instance-complete plan s [] x is, root-closed plan s x is)
 root-whole plan s _ e h = absurd (none-some e h)

@@ -23,7 +23,7 @@ use Rattle.fly_world.specs.Changes.{Change, no_change, moment_becomes, catalog_b
 use Rattle.fly_world.specs.Steps.{cited_move}
 use Rattle.fly_world.specs.ReadOff.{versions_of}
 use Rattle.fly_world.specs.Journals.{IsHistory}
-use Rattle.fly_world.specs.Versions.{IsComplete, IsShaped, HasShapedVersions}
+use Rattle.fly_world.specs.Versions.{IsComplete, IsShaped, HasShapedVersions, is_root_phase}
 use Rattle.fly_world.proofs.StepLemmas.{Permits}
 use Rattle.fly_world.proofs.JournalLemmas.{along_changes}
 use Rattle.fly_world.proofs.EffectLemmas.{given}
@@ -89,6 +89,7 @@ module _ (plan : RunPlan) (v : View) (inputs : LiteralMap) (first : IsShaped pla
             (λ array. inr (subst (λ (x : PlanNode). is_array x.node ≡ true) (same_node i p q numbered is) array))
             whole.array_only);
         inputs_are = h.inputs_are;
+        root_phase = h.root_phase;
         complete = record {
           root = h.complete.root;
           nodes = complete_with s i new h whole.own
@@ -114,6 +115,7 @@ module _ (plan : RunPlan) (v : View) (inputs : LiteralMap) (first : IsShaped pla
             (ap (λ (x : NodeState). x.items) (node_is s i m there) ∙ empty)))
             inr (h.arrays i m q there is));
         inputs_are = h.inputs_are;
+        root_phase = h.root_phase;
         complete = record {
           root = h.complete.root;
           nodes = complete_with s i new h (node-complete s h.complete i).0
@@ -121,13 +123,14 @@ module _ (plan : RunPlan) (v : View) (inputs : LiteralMap) (first : IsShaped pla
         };
       }
 
-  shaped_root : (s : ExecState) (item : Option ℕ) (e : Effect) → Shaped s → IsComplete e.slot → e.slot.inputs
-      ≡ Some inputs
+  shaped_root : (s : ExecState) (item : Option ℕ) (e : Effect) → Shaped s → IsComplete e.slot
+      → e.slot.inputs ≡ Some inputs → is_root_phase e.slot.phase ≡ true
       → Shaped (state_with s (record { node = None; item = item }) e)
-  shaped_root s item e h complete given = record {
+  shaped_root s item e h complete given closed = record {
     count = h.count;
     arrays = h.arrays;
     inputs_are = given;
+    root_phase = closed;
     complete = record { root = complete; nodes = h.complete.nodes };
   }
 
@@ -136,7 +139,7 @@ module _ (plan : RunPlan) (v : View) (inputs : LiteralMap) (first : IsShaped pla
       → Shaped (state_with s (record { node = to; item = item }) e)
   shaped_by es st e s None None legal h =
       let made = root-whole plan v.state st e legal in
-      shaped_root s None e h made.0 (made.1 ∙ first.inputs_are)
+      shaped_root s None e h made.0 (made.1.0 ∙ first.inputs_are) made.1.1
   shaped_by es st e s None (Some k) legal h = absurd (none-some e legal)
   shaped_by es st e s (Some i) None legal h =
       let found = there_then (λ p. where_true (may_step plan v.state (instance_of p) st)
@@ -177,6 +180,7 @@ first-shaped plan inputs = record {
   count = length-map plan.nodes (λ (p : PlanNode). fresh_node);
   arrays = λ i n p there numbered. inl (ap (λ (x : NodeState). x.items) (sym (fresh i n there)));
   inputs_are = refl;
+  root_phase = refl;
   complete = record {
     root = idle;
     nodes = λ i n there. (

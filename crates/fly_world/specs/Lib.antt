@@ -4,7 +4,6 @@ pub mod Spots
 pub mod Steps
 pub mod Journals
 pub mod ReadOff
-pub mod Opening
 pub mod Versions
 pub mod Work
 pub mod Called

@@ -1,7 +1,7 @@
 -- What a world keeps that goes by a plan: its names are ids and distinct, its versions and views are of the plan, and
 -- its literals are of the
 -- declared types.
-use Rattle.std.specs.Prelude.{◌≡◌, ◌≢◌, ◌⊎◌, ℕ, ◌≤◌, Bool, true, ◌||◌, List, [], map, length, slice_get, All, AllPairs, Contains, Some, is_some}
+use Rattle.std.specs.Prelude.{◌≡◌, ◌≢◌, ◌⊎◌, ℕ, ◌≤◌, Bool, true, false, ◌||◌, List, [], map, length, slice_get, All, AllPairs, Contains, Some, is_some}
 use Rattle.fly_types.specs.declared.text.Text.{Text}
 use Rattle.fly_types.specs.declared.literals.LiteralMap.{LiteralMap}
 use Rattle.fly_docs.specs.declared.attempt_name.AttemptName.{AttemptName}
@@ -12,6 +12,7 @@ use Rattle.fly_docs.specs.Plans.{PlanNode, is_array}
 use Rattle.fly_policy.specs.Outcome.{AreOutputs}
 use Rattle.fly_policy.specs.declared.outcome.Outcome.TheVariants as outcome
 use Rattle.fly_state.specs.declared.phase.Phase.{Phase}
+use Rattle.fly_state.specs.declared.phase.Phase.TheVariants as phase
 use Rattle.fly_state.specs.declared.slots.SlotState.{SlotState}
 use Rattle.fly_state.specs.declared.slots.NodeState.{NodeState}
 use Rattle.fly_state.specs.declared.slots.ExecState.{ExecState}
@@ -69,13 +70,21 @@ pub record AreAllComplete (s : ExecState) : Type 0 where
   pub root : IsComplete s.root
   pub nodes : (i : ℕ) (n : NodeState) → slice_get s.nodes i ≡ Some n → IsComplete n.own × All IsComplete n.items
 
--- A state with as many nodes as the plan, of which arrays alone have items; with the submitted inputs at the root;
--- whose slots are complete.
+-- a root runs until it succeeds or fails
+abbrev pub is_root_phase : Phase → Bool
+is_root_phase phase.Running = true
+is_root_phase phase.Succeeded = true
+is_root_phase phase.Failed = true
+is_root_phase _ = false
+
+-- A state with as many nodes as the plan, of which arrays alone have items; with the submitted inputs at the root, which
+-- runs, has succeeded or has failed; whose slots are complete.
 pub record IsShaped (plan : RunPlan) (inputs : LiteralMap) (s : ExecState) : Type 0 where
   pub count : length s.nodes ≡ length plan.nodes
   pub arrays : (i : ℕ) (n : NodeState) (p : PlanNode) → slice_get s.nodes i ≡ Some n → node_numbered plan i ≡ Some p
       → (n.items ≡ []) ⊎ (is_array p.node ≡ true)
   pub inputs_are : s.root.inputs ≡ Some inputs
+  pub root_phase : is_root_phase s.root.phase ≡ true
   pub complete : AreAllComplete s
 
 -- each version is so
