@@ -1,0 +1,4 @@
+pub mod Submissions
+pub mod Lines
+pub mod Hashes
+pub mod Opening
