@@ -1,0 +1,5 @@
+pub mod Places
+mod SlotLemmas
+mod LaunchLemmas
+mod PathTexts
+mod SectionLemmas

@@ -1,0 +1,5 @@
+pub mod Phases
+pub mod Lines
+pub mod Launches
+pub mod LaunchCounts
+pub mod Report
