@@ -8,8 +8,6 @@ mod object;
 mod ops;
 mod outcomes;
 mod replies;
-#[cfg(test)]
-mod tests;
 mod values;
 
 pub use laws::legal_entries_have_lines;
