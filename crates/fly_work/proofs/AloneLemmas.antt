@@ -94,6 +94,8 @@ acts-adds {old} {new} {worker} {calls} acts = record {
   closure = acts.closure;
   entries = rw (← acts.only tt) acts.entries;
   leads = rw (← acts.only tt) acts.leads;
+  there = acts.there;
+  rising = acts.rising;
   later = acts.later;
   room = acts.room;
 }

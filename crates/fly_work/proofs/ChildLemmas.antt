@@ -11,13 +11,13 @@ use Rattle.fly_policy.specs.Outcome.{IsOutcomeOf}
 use Rattle.fly_policy.specs.declared.heard.Heard.{Heard}
 use Rattle.fly_policy.specs.declared.outcome.Outcome.{Outcome}
 use Rattle.fly_world.specs.declared.work.Work.{Work}
-use Rattle.fly_work.specs.Children.{IsHeard}
+use Rattle.fly_work.specs.Children.{child_words, IsHeard}
 use Rattle.fly_work.specs.Parts.{Hears}
 
 module _ (old new : SpawnerState) (work : Work) where
   -- no memory was found before the program ran, or behind it
   pub hears-short : (answer : Result Ended SpawnFault) (short : NoMemory)
-      → RunsProgram old new (name_text work.name) work.words (literal_map_text work.inputs) answer
+      → RunsProgram old new (name_text work.name) (child_words work) (literal_map_text work.inputs) answer
       → Hears old new work (Err short)
   hears-short (Ok ended) short runs =
       inr (record { work = work; answer = Ok ended }, refl, record { runs = runs; ran = λ same. cc })
@@ -32,7 +32,7 @@ module _ (old new : SpawnerState) (work : Work) where
 
   -- what was heard is what the attempt came to by
   pub hears-end : (answer : Result Ended SpawnFault) (heard : Heard) (result : Result Outcome NoMemory)
-      → RunsProgram old new (name_text work.name) work.words (literal_map_text work.inputs) answer
+      → RunsProgram old new (name_text work.name) (child_words work) (literal_map_text work.inputs) answer
       → IsHeard answer heard
       → IfOk result (λ outcome. IsOutcomeOf work.outputs heard outcome) → Hears old new work result
   hears-end answer heard (Ok outcome) runs is means = (

@@ -236,6 +236,7 @@ module _ {K : Type 0} (kept kept_part : K → List Entry → K → Type 0) (faul
             subst (IsTurn store.plan store.closure new.world.entries (numbered (0 + length goes.turns)) last.calls)
                 idle.0 last_turn,
             idle.1,
+            goes.busy,
           )
       idle_by (Err g) e is turn ok = cc
 

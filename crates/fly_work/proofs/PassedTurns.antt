@@ -1,9 +1,9 @@
 -- Whole turns of a worker that acts alone, one after another: what they have done and what they left as it was.
-use Rattle.std.proofs.Common.{◌≡◌, ℕ, ◌+◌, ◌-◌, ◌*◌, ◌<◌, ◌≤◌, List, [], ◌∷◌, ◌++◌, length, map, flat_map, All, None, Result, ⊎_elim, refl, sym, subst, ap, ◌∙◌, arith}
+use Rattle.std.proofs.Common.{◌≡◌, ℕ, ◌+◌, ◌-◌, ◌*◌, ◌<◌, ◌≤◌, false, List, [], ◌∷◌, ◌++◌, length, map, flat_map, All, None, Result, ⊎_elim, refl, sym, subst, ap, ◌∙◌, arith}
 use Rattle.std.proofs.lemmas.Bool.{cases_lt}
 use Rattle.std.proofs.lemmas.List.{append-nil, length-append, length-map}
 use Rattle.std.proofs.lemmas.List.Concat.{flat_map-append}
-use Rattle.std.proofs.lemmas.List.Elements.{All-nil, All-cons, All-head, All-tail, filter-append}
+use Rattle.std.proofs.lemmas.List.Elements.{All-nil, All-cons, All-append, All-head, All-tail, filter-append}
 use Rattle.fly_docs.specs.declared.workflow.Workflow.{Workflow}
 use Rattle.fly_state.specs.declared.entries.Entry.{Entry}
 use Rattle.fly_state.specs.PlanTables.{IsOuterPlan}
@@ -15,7 +15,7 @@ use Rattle.fly_work.specs.declared.driving.DriveFault.{DriveFault}
 use Rattle.fly_work.specs.declared.turn_end.TurnEnd.{TurnEnd}
 use Rattle.fly_work.specs.declared.turn_end.TurnEnd.TheVariants as end
 use Rattle.fly_work.specs.Stages.{Turn, starting, over, read_back}
-use Rattle.fly_work.specs.Turns.{IsTurn, call_entry, claims_of, outcomes_of, is_read_op, reads_of}
+use Rattle.fly_work.specs.Turns.{IsTurn, call_entry, is_idle, claims_of, outcomes_of, is_read_op, reads_of}
 use Rattle.fly_work.specs.Playing.{Outside, HasWorked, IsWhole, PlaysTurn}
 use Rattle.fly_work.specs.Bounds.{world_bound}
 use Rattle.fly_work.specs.Drives.{turn_numbered, IsUncached}
@@ -128,6 +128,7 @@ module _ {K : Type 0} (kept kept_part : K → List Entry → K → Type 0) (faul
         turns = [];
         count_is = refl;
         are_whole = tt;
+        busy = All-nil (λ calls. is_idle calls ≡ false);
         did = none.0;
         whole = none.1;
         heard = omega arith;
@@ -175,6 +176,7 @@ module _ {K : Type 0} (kept kept_part : K → List Entry → K → Type 0) (faul
         turns = first.turns ++ rest.turns;
         count_is = omega (arith, length-append first.turns rest.turns, first.count_is, rest.count_is);
         are_whole = whole-both a.plan a.closure c.world.entries (around a) first.turns rest.turns number front back;
+        busy = All-append (λ calls. is_idle calls ≡ false) first.turns rest.turns first.busy rest.busy;
         did = done.0;
         whole = done.1;
         heard = done.2;
@@ -208,6 +210,7 @@ module _ {K : Type 0} (kept kept_part : K → List Entry → K → Type 0) (faul
           turns = calls ∷ [];
           count_is = refl;
           are_whole = (whole-turn, tt);
+          busy = All-cons (λ cs. is_idle cs ≡ false) calls [] plays.ended.1 (All-nil (λ cs. is_idle cs ≡ false));
           did = done.0;
           whole = done.1;
           heard = done.2;

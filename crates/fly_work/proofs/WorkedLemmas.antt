@@ -1,9 +1,10 @@
 -- What calls have done, one part of them behind another.
-use Rattle.std.proofs.Common.{◌≡◌, ◌⊎◌, inl, inr, ℕ, ◌+◌, ◌<◌, ◌≤◌, ℤ, List, [], ◌∷◌, ◌++◌, length, map, take, All, refl, sym, subst, ap, ◌∙◌, arith}
+use Rattle.std.proofs.Common.{◌≡◌, ◌⊎◌, inl, inr, ℕ, ◌+◌, ◌<◌, ◌≤◌, ℤ, List, [], ◌∷◌, ◌++◌, length, map, take, slice_get, All, Some, refl, sym, subst, ap, ◌∙◌, arith}
 use Rattle.std.specs.List.{AllZip}
 use Rattle.std.proofs.lemmas.List.{append_assoc, append-nil, length-append, map-append, take_all, take-append-le}
 use Rattle.std.proofs.lemmas.List.Concat.{flat_map-append}
 use Rattle.std.proofs.lemmas.List.Elements.{All-nil, All-append, All-head, All-tail, All-weaker, All-filter, filter-append}
+use Rattle.std.proofs.lemmas.Option.{slice_get_within}
 use Rattle.std.proofs.Math.Seq.{take-append-add}
 use Rattle.fly_ports.specs.Clock.{ClockState}
 use Rattle.fly_ports.specs.Spawner.{SpawnerState}
@@ -11,6 +12,7 @@ use Rattle.fly_state.specs.declared.entries.Entry.{Entry}
 use Rattle.fly_state.specs.Plans.{RunPlan}
 use Rattle.fly_world.specs.Journals.{Leads, IsHistory}
 use Rattle.fly_world.specs.Kept.{Kept, IsLegal}
+use Rattle.fly_world.proofs.FinalSlots.{get_front}
 use Rattle.fly_world.proofs.JournalLemmas.{leads-on}
 use Rattle.fly_round.specs.declared.told.Told.{Told}
 use Rattle.fly_work.specs.Children.{Child, RunAll, CameTo}
@@ -18,6 +20,7 @@ use Rattle.fly_work.specs.Stages.{IsWorkClaimed}
 use Rattle.fly_work.specs.Turns.{GivesAll, call_entry, ticks_by, ticks_of, is_claim, claims_of, outcomes_by, outcomes_of}
 use Rattle.fly_work.specs.Keeping.{KeepsBefore}
 use Rattle.fly_work.specs.Playing.{AddsCalls, HasChildren, Outside, HasWorked, IsWhole}
+use Rattle.fly_work.proofs.ActingLemmas.{pairs_none, pairs_append}
 
 -- ---- lists
 
@@ -50,6 +53,8 @@ adds-none k worker = record {
   closure = refl;
   entries = sym (append-nil k.world.entries);
   leads = refl;
+  there = All-nil (λ (c : Told). slice_get k.world.entries c.place ≡ Some (call_entry worker c));
+  rising = pairs_none (λ (x y : Told). x.place < y.place);
   later = All-nil (λ (c : Told). length k.world.entries ≤ c.place);
   room = omega arith;
 }
@@ -71,6 +76,18 @@ adds-both {a = a} {b = b} {c = c} {worker = worker} {cs = cs} {ds = ds} first re
           (leads-on a.plan a.world b.world c.world (map (call_entry worker) cs) (map (call_entry worker) ds)
           first.leads
           (subst (λ p. Leads p b.world (map (call_entry worker) ds) c.world) first.plan rest.leads));
+      there = All-append (λ (t : Told). slice_get c.world.entries t.place ≡ Some (call_entry worker t)) cs ds
+          (All-weaker (λ (t : Told). slice_get b.world.entries t.place ≡ Some (call_entry worker t))
+          (λ (t : Told). slice_get c.world.entries t.place ≡ Some (call_entry worker t))
+          (λ t h. subst (λ es. slice_get es t.place ≡ Some (call_entry worker t)) (sym rest.entries)
+          (get_front b.world.entries (map (call_entry worker) ds) t.place (call_entry worker t) h)) cs first.there)
+          rest.there;
+      rising = pairs_append (λ (s t : Told). s.place < t.place) cs ds first.rising rest.rising
+          (All-weaker (λ (t : Told). slice_get b.world.entries t.place ≡ Some (call_entry worker t))
+          (λ (s : Told). All (λ (t : Told). s.place < t.place) ds)
+          (λ s h. All-weaker (λ (t : Told). length b.world.entries ≤ t.place) (λ (t : Told). s.place < t.place)
+          (λ t later. omega (arith, slice_get_within b.world.entries s.place (call_entry worker s) h)) ds rest.later)
+          cs first.there);
       later = All-append (λ (c : Told). length a.world.entries ≤ c.place) cs ds first.later
           (All-weaker (λ (c : Told). length b.world.entries ≤ c.place)
           (λ (c : Told). length a.world.entries ≤ c.place)

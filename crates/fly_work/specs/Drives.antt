@@ -31,10 +31,11 @@ AreTurns plan closure journal t number (calls ∷ []) = (at : Stage) × IsTurn p
 AreTurns plan closure journal t number (calls ∷ more) =
     IsTurn plan closure journal (t number) calls over × AreTurns plan closure journal t (number + 1) more
 
--- the last of them is whole too, and found every execution over
+-- the last of them is whole too and found every execution over, which none before it did
 abbrev pub EndsIdle : RunPlan → List ℕ → List Entry → (ℕ → Turn) → ℕ → List (List Told) → Type 0
 EndsIdle plan closure journal t number turns = (before : List (List Told)) × (last : List Told) × (turns ≡ before ++ last ∷ [])
     × IsTurn plan closure journal (t (number + length before)) last over × (is_idle last ≡ true)
+    × All (λ calls. is_idle calls ≡ false) before
 
 -- ---- answers
 

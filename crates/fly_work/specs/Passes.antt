@@ -1,5 +1,5 @@
 -- The passes of a drive. Private contracts alone cite this file.
-use Rattle.std.specs.Prelude.{◌≡◌, ◌≤◌, ◌<◌, ℕ, ◌+◌, ◌*◌, List, [], ◌∷◌, flat_map, length, Option, Some, None, Result, Ok, Err}
+use Rattle.std.specs.Prelude.{◌≡◌, ◌≤◌, ◌<◌, ℕ, ◌+◌, ◌*◌, false, List, [], ◌∷◌, All, flat_map, length, Option, Some, None, Result, Ok, Err}
 use Rattle.fly_state.specs.declared.entries.Entry.{Entry}
 use Rattle.fly_state.specs.Plans.{RunPlan}
 use Rattle.fly_world.specs.Kept.{Kept, IsLegal}
@@ -10,7 +10,7 @@ use Rattle.fly_work.specs.declared.driving.DriveFault.TheVariants as fault
 use Rattle.fly_work.specs.declared.turn_end.TurnEnd.{TurnEnd}
 use Rattle.fly_work.specs.declared.turn_end.TurnEnd.TheVariants as end
 use Rattle.fly_work.specs.Stages.{Turn, over, read_back}
-use Rattle.fly_work.specs.Turns.{IsTurn, claims_of, outcomes_of}
+use Rattle.fly_work.specs.Turns.{IsTurn, is_idle, claims_of, outcomes_of}
 use Rattle.fly_work.specs.Playing.{Outside, HasWorked, IsWhole, PlaysTurn}
 use Rattle.fly_work.specs.Bounds.{world_bound}
 use Rattle.fly_work.specs.Drives.{turn_numbered}
@@ -22,14 +22,15 @@ AreWhole plan closure journal t number [] = Unit {0}
 AreWhole plan closure journal t number (calls ∷ more) =
     IsTurn plan closure journal (t number) calls over × AreWhole plan closure journal t (number + 1) more
 
--- So many whole turns of a worker that acts alone, of this number and on: what they have done, each claim with its
--- outcome, and what they left as it was.
+-- So many whole turns of a worker that acts alone, of this number and on, none of which found every execution over: what
+-- they have done, each claim with its outcome, and what they left as it was.
 pub record GoesOn {K : Type 0} (kept kept_part : K → List Entry → K → Type 0) (faults : K → ℕ) (lag number count : ℕ)
     (store new_store : Kept) (before after : Outside K) : Type 0 where
   pub turns : List (List Told)
   pub count_is : length turns ≡ count
   pub are_whole : AreWhole store.plan store.closure new_store.world.entries
       (turn_numbered (length store.world.executions) lag) number turns
+  pub busy : All (λ calls. is_idle calls ≡ false) turns
   pub did : HasWorked kept kept_part 0 (flat_map (λ calls. calls) turns) store new_store before after
   pub whole : IsWhole did
   pub heard : length (claims_of (flat_map (λ calls. calls) turns))

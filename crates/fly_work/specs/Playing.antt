@@ -1,6 +1,6 @@
 -- What a worker that acts alone on a store has done by its calls: the entries, the ticks, the children that ran, and what
 -- was kept.
-use Rattle.std.specs.Prelude.{◌≡◌, ◌≤◌, ◌+◌, ℕ, true, false, List, ◌++◌, map, length, take, All}
+use Rattle.std.specs.Prelude.{◌≡◌, ◌≤◌, ◌<◌, ◌+◌, ℕ, true, false, List, ◌++◌, map, length, take, slice_get, All, AllPairs, Some}
 use Rattle.std.specs.List.{AllZip}
 use Rattle.fly_ports.specs.Clock.{ClockState}
 use Rattle.fly_ports.specs.Faults.{Rises}
@@ -19,12 +19,14 @@ use Rattle.fly_work.specs.Keeping.{KeepsBefore}
 
 -- ---- entries
 
--- The store after these calls of a worker: they are its only new entries, one behind another, and each is a step.
+-- The store after these calls of a worker: they are its only new entries, one behind another, each at its place, and each is a step.
 pub record AddsCalls (old new : Kept) (worker : ℕ) (calls : List Told) : Type 0 where
   pub plan : new.plan ≡ old.plan
   pub closure : new.closure ≡ old.closure
   pub entries : new.world.entries ≡ old.world.entries ++ map (call_entry worker) calls
   pub leads : Leads old.plan old.world (map (call_entry worker) calls) new.world
+  pub there : All (λ (c : Told). slice_get new.world.entries c.place ≡ Some (call_entry worker c)) calls
+  pub rising : AllPairs (λ (a b : Told). a.place < b.place) calls
   pub later : All (λ (c : Told). length old.world.entries ≤ c.place) calls
   pub room : old.spare ≤ new.spare + length calls
 
