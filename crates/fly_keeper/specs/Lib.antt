@@ -1,0 +1,4 @@
+pub mod JournalText
+pub mod Gains
+pub mod Kept
+pub mod KeptLaws
