@@ -1,0 +1,4 @@
+mod SummaryLemmas
+mod OpeningLemmas
+mod DrivingLemmas
+mod GeneratedLemmas
