@@ -1,30 +1,20 @@
 -- How commands end.
-use Rattle.std.proofs.Common.{◌≡◌, ◌≢◌, ◌⊎◌, ℕ, decimal, List, Option, Some, None, Result, Ok, Err, IfOk, MatchResult, String, Global, string_bytes, subst, refl, sym, ap, ◌∙◌, inl, inr, arith}
+use Rattle.std.proofs.Common.{◌≡◌, ◌⊎◌, ℕ, decimal, List, Option, Some, None, Result, Ok, Err, IfOk, MatchResult, String, Global, string_bytes, subst, refl, sym, ap, ◌∙◌, inl, inr, arith}
 use Rattle.std.proofs.lemmas.Fmt.{decimal_injective}
 use Rattle.fly_types.specs.declared.memory.NoMemory.{NoMemory}
 use Rattle.fly_ports.specs.Faults.{Rises}
 use Rattle.fly_ports.specs.Files.{Contents, FilesState, Lacks, FailsToRead}
 use Rattle.fly_ports.specs.Sink.{SinkState, Writes, FailsToWrite, Tries}
-use Rattle.fly_docs.specs.declared.workflow.Bundle.{Bundle}
-use Rattle.serde_json.specs.Data.{Data}
-use Rattle.fly_schema.specs.declared.fault.DocKind.{DocKind}
-use Rattle.fly_schema.specs.declared.fault.DocKind.TheVariants as kinds
-use Rattle.fly_schema.specs.declared.fault.DocFault.{DocFault}
-use Rattle.fly_schema.specs.Reports.{first_report}
-use Rattle.fly_values.specs.Documents.{bundle_value}
-use Rattle.fly_idl.specs.Rows.{message_table}
-use Rattle.fly_idl.specs.Reading.{IsJson, ReadsBundle, IsFirstFault, too_large, not_json, broken, no_memory}
-use Rattle.fly_idl.specs.Rows.{bundle_form}
-use Rattle.fly_faults.specs.FaultList.{faults_of}
 use Rattle.fly_app.specs.declared.status.Status.{Status}
 use Rattle.fly_app.specs.declared.status.Status.TheVariants as statuses
 use Rattle.fly_app.specs.Words.{Request, compile, make, help, version, IsRequest}
-use Rattle.fly_app.specs.Outside.{outside, Outside, IsContent, IsTold, IsUnread, WritesAll}
+use Rattle.fly_app.specs.Outside.{outside, Outside, IsContent, IsTold, IsAbsent, IsUnread, WritesAll}
 use Rattle.fly_app.specs.Printing.{PrintsText, SaysLine, FailsToSay, no_memory_text}
-use Rattle.fly_app.specs.declared.compiling.Unanswered.{Unanswered}
-use Rattle.fly_app.specs.declared.compiling.Unanswered.TheVariants as unanswered
+use Rattle.fly_app.specs.declared.reading.Unanswered.{Unanswered}
+use Rattle.fly_app.specs.declared.reading.Unanswered.TheVariants as unanswered
 use Rattle.fly_app.specs.Compiling.{CompilesFile}
-use Rattle.fly_app.specs.Answers.{HasClosure, Answer, Text, WrongWord, Refusal, Unread, HasText, HasRefusal, Wants, Asks, status_of, SaysOnly, SaysPart, Prints, FailsToPrint, HasDone, IsKnown, IsAbsent, IsDue, EndsWith, RunsCommand}
+use Rattle.fly_app.proofs.ContentLemmas.{not_lacking, absent_told, absent_lacks, not_refused}
+use Rattle.fly_app.specs.Answers.{HasClosure, Answer, Text, WrongWord, Refusal, Unread, HasText, HasRefusal, Wants, Asks, status_of, SaysOnly, SaysPart, Prints, FailsToPrint, HasDone, IsAnswered, IsUnwritten, LacksMemory, IsKnown, IsDue, EndsWith, RunsCommand}
 
 -- ---- what a run of a command has done
 
@@ -36,7 +26,25 @@ files_kept words old new (Refusal lines) asked = inl asked.3
 files_kept words old new (Unread path) (r, is, wants, inl fails) = inr fails
 files_kept words old new (Unread path) (r, is, wants, inr lacks) = inl lacks.0
 
+-- it said an answer that was asked for, or could not, or found no memory
+abbrev pub Says : (FilesState → FilesState → Answer → Type 0) → Outside → Outside → Status → Type 0
+Says asks before after status = IsAnswered asks before after status ⊎ IsUnwritten asks before after status ⊎ LacksMemory before after status
+
 -- lines were said for an answer that has some
+pub said_line : (asks : FilesState → FilesState → Answer → Type 0) (old new : FilesState) (out err new_err : SinkState) (a : Answer) (text : List ℕ)
+    (line : Result (String Global) NoMemory) (status : Status) → asks old new a → ((new ≡ old) ⊎ FailsToRead old new)
+    → (SaysOnly (outside old out err) (outside new out new_err) text → Prints (outside old out err) (outside new out new_err) a)
+    → (SaysPart (outside old out err) (outside new out new_err) text → FailsToPrint (outside old out err) (outside new out new_err) a)
+    → IfOk line (λ l. string_bytes l ≡ text)
+    → MatchResult line (λ l. SaysLine err new_err (string_bytes l) (status_of a) status) (λ e. (status ≡ statuses.NoMemory) × Tries err new_err no_memory_text)
+    → Says asks (outside old out err) (outside new out new_err) status
+said_line asks old new out err new_err a text (Ok l) status asked kept prints fails is (inl said) =
+    inl (record { answer = a; asked = asked; printed = prints (refl, subst (λ (t : List ℕ). Writes err new_err t) is said.1); ends = said.0 })
+said_line asks old new out err new_err a text (Ok l) status asked kept prints fails is (inr part) =
+    inr (inl (record { answer = a; asked = asked; printed = fails (refl, subst (λ (t : List ℕ). FailsToSay err new_err t) is part.1); ends = part.0 }))
+said_line asks old new out err new_err a text (Err e) status asked kept prints fails is none =
+    inr (inr (record { files = kept; out = refl; err = none.1; ends = none.0 }))
+
 pub done_line : (words : List (List ℕ)) (old new : FilesState) (out err new_err : SinkState) (a : Answer) (text : List ℕ) (line : Result (String Global) NoMemory) (status : Status)
     → Asks words old new a
     → (SaysOnly (outside old out err) (outside new out new_err) text → Prints (outside old out err) (outside new out new_err) a)
@@ -44,12 +52,8 @@ pub done_line : (words : List (List ℕ)) (old new : FilesState) (out err new_er
     → IfOk line (λ l. string_bytes l ≡ text)
     → MatchResult line (λ l. SaysLine err new_err (string_bytes l) (status_of a) status) (λ e. (status ≡ statuses.NoMemory) × Tries err new_err no_memory_text)
     → HasDone words (outside old out err) (outside new out new_err) status
-done_line words old new out err new_err a text (Ok l) status asked prints fails is (inl said) =
-    inl (record { answer = a; asked = asked; printed = prints (refl, subst (λ (t : List ℕ). Writes err new_err t) is said.1); ends = said.0 })
-done_line words old new out err new_err a text (Ok l) status asked prints fails is (inr part) =
-    inr (inl (record { answer = a; asked = asked; printed = fails (refl, subst (λ (t : List ℕ). FailsToSay err new_err t) is part.1); ends = part.0 }))
-done_line words old new out err new_err a text (Err e) status asked prints fails is none =
-    inr (inr (record { files = files_kept words old new a asked; out = refl; err = none.1; ends = none.0 }))
+done_line words old new out err new_err a text line status asked prints fails is says =
+    said_line (Asks words) old new out err new_err a text line status asked (files_kept words old new a asked) prints fails is says
 
 -- the text of a request was printed
 pub done_text : (words : List (List ℕ)) (old new : FilesState) (out new_out err new_err : SinkState) (r : Request) (text : List ℕ) (status : Status) → IsRequest words r
@@ -69,9 +73,6 @@ done_none words old new out err new_err status same is tried = inr (inr (record 
 pub refusal_of : (old new : FilesState) (path : List ℕ) (fault : Unanswered) (lines : String Global) → fault ≡ unanswered.Refused lines → CompilesFile old new path (Err fault)
     → HasRefusal old.contents (compile path) (string_bytes lines) × (new ≡ old)
 refusal_of old new path fault lines is why = rw is at why
-
-pub unread_of : (old new : FilesState) (path : List ℕ) (fault : Unanswered) → fault ≡ unanswered.Unread → CompilesFile old new path (Err fault) → IsUnread old new path
-unread_of old new path fault is why = rw is at why
 
 -- ---- which answer is due
 
@@ -97,62 +98,13 @@ one_request words version (make n) a b = let same = sym a ∙ b.spelled in absur
 one_request words version help a b = let same = sym a ∙ b in absurd (cc same)
 one_request words version version a b = refl
 
--- of files that are told, one is there or none
-one_content : (contents : Option Contents) (path f g : List ℕ) → IsTold contents → IsContent contents path f → IsContent contents path g → f ≡ g
-one_content contents path f g told a b =
-    let first : told.0 path ≡ Some f = rw told.1 at a in
-    let second : told.0 path ≡ Some g = rw told.1 at b in
-    let both : Some f ≡ Some g = sym first ∙ second in cc
-
-not_lacking : (contents : Option Contents) (path file : List ℕ) → IsTold contents → IsContent contents path file → Lacks contents path → ⊥
-not_lacking contents path file told there lacks =
-    let some : told.0 path ≡ Some file = rw told.1 at there in
-    let none : told.0 path ≡ None = rw told.1 at lacks in
-    let both : Some file ≡ None = sym some ∙ none in cc
-
-absent_told : (contents : Option Contents) (path : List ℕ) → IsAbsent contents path → IsTold contents
-absent_told contents path absent = (absent.0, absent.1)
-
-absent_lacks : (contents : Option Contents) (path file : List ℕ) → IsAbsent contents path → IsContent contents path file → ⊥
-absent_lacks contents path file absent there =
-    let some : absent.0 path ≡ Some file = rw absent.1 at there in
-    let both : Some file ≡ None = sym some ∙ absent.2 in cc
-
--- ---- documents
-
--- bytes are the text of one JSON value
-one_json : (bytes : List ℕ) (a b : Data) → IsJson bytes a → IsJson bytes b → a ≡ b
-one_json bytes a b x y = let both : Some a ≡ Some b = sym x.value ∙ y.value in cc both
-
-one_bundle : (bytes : List ℕ) (a b : Bundle) → ReadsBundle bytes a → ReadsBundle bytes b → a ≡ b
-one_bundle bytes a b (d, faultless, is) (e, clean, same) = is ∙ ap bundle_value (one_json bytes d e faultless.json clean.json) ∙ sym same
-
--- a document with a fault is no bundle's
-not_both : (bytes : List ℕ) (f : DocFault) (b : Bundle) → IsFirstFault bundle_form bytes f → f.kind ≢ kinds.NoMemory → ReadsBundle bytes b → ⊥
-not_both bytes f b (too_large many is) known (d, faultless, same) = let few = faultless.within in absurd (omega (arith, many, few))
-not_both bytes f b (not_json few none is) known (d, faultless, same) = none d faultless.json
-not_both bytes f b (broken few e json is) known (d, faultless, same) =
-    let report = ap (first_report message_table bundle_form) (one_json bytes e d json faultless.json) in
-    let both : Some (f.kind, f.place) ≡ None = sym is ∙ report ∙ faultless.faultless in absurd (cc both)
-not_both bytes f b (no_memory is) known reads = known (ap (λ (r : DocKind × List ℕ). r.0) is)
-
--- a bundle without a fault is not refused
-text_refused : (contents : Option Contents) (path text lines : List ℕ) → IsTold contents → HasClosure contents path text → HasRefusal contents (compile path) lines → ⊥
-text_refused contents path text lines told has (inl fault) =
-    let same = one_content contents path has.file fault.file told has.content fault.content in
-    not_both fault.file fault.fault has.bundle fault.first fault.known (subst (λ (f : List ℕ). ReadsBundle f has.bundle) same has.reads)
-text_refused contents path text lines told has (inr faults) =
-    let same = one_content contents path has.file faults.file told has.content faults.content in
-    let bundles = one_bundle faults.file has.bundle faults.bundle (subst (λ (f : List ℕ). ReadsBundle f has.bundle) same has.reads) faults.reads in
-    faults.faulty (ap faults_of (sym bundles) ∙ has.faultless)
-
 refusal_content : (contents : Option Contents) (path lines : List ℕ) → HasRefusal contents (compile path) lines → (file : List ℕ) × IsContent contents path file
 refusal_content contents path lines (inl fault) = (fault.file, fault.content)
 refusal_content contents path lines (inr faults) = (faults.file, faults.content)
 
 -- of a request that is known, one answer is the right one
 text_only : (r : Request) (old new : FilesState) (text lines : List ℕ) → IsKnown r old new → HasText old.contents r text → HasRefusal old.contents r lines → ⊥
-text_only (compile path) old new text lines known has refusal = text_refused old.contents path text lines known.0 has refusal
+text_only (compile path) old new text lines known has refusal = not_refused old.contents path lines has.0 known.0 has.1 refusal
 text_only (make count) old new text lines known has refusal = refusal
 text_only help old new text lines known has refusal = refusal
 text_only version old new text lines known has refusal = refusal
@@ -160,7 +112,7 @@ text_only version old new text lines known has refusal = refusal
 text_read : (r : Request) (old new : FilesState) (text path : List ℕ) → IsKnown r old new → HasText old.contents r text → Wants r path → IsUnread old new path → ⊥
 text_read (compile p) old new text path known has wants (inl fails) = known.1 fails.read_faults
 text_read (compile p) old new text path known has wants (inr lacks) =
-    not_lacking old.contents p has.file known.0 has.content (subst (λ (q : List ℕ). Lacks old.contents q) wants lacks.1)
+    not_lacking old.contents p has.1.file known.0 has.1.content (subst (λ (q : List ℕ). Lacks old.contents q) wants lacks.1)
 text_read (make count) old new text path known has wants unread = wants
 text_read help old new text path known has wants unread = wants
 text_read version old new text path known has wants unread = wants
@@ -176,7 +128,7 @@ refusal_read version old new lines path known has wants unread = wants
 
 absent_text : (r : Request) (contents : Option Contents) (text path : List ℕ) → Wants r path → IsAbsent contents path → HasText contents r text → ⊥
 absent_text (compile p) contents text path wants absent has =
-    absent_lacks contents p has.file (subst (λ (q : List ℕ). IsAbsent contents q) wants absent) has.content
+    absent_lacks contents p has.1.file (subst (λ (q : List ℕ). IsAbsent contents q) wants absent) has.1.content
 absent_text (make count) contents text path wants absent has = wants
 absent_text help contents text path wants absent has = wants
 absent_text version contents text path wants absent has = wants
@@ -234,7 +186,7 @@ fails_later old mid new line fails (inl same) = record { later = omega (arith, f
 fails_later old mid new line fails (inr rise) =
     record { later = omega (arith, fails.faults.later, rise.later); next = omega (arith, fails.faults.next, rise.later) }
 
-said_part : (before after : Outside) (line : List ℕ) → SaysPart before after line → Rises before.err.faults after.err.faults
+pub said_part : (before after : Outside) (line : List ℕ) → SaysPart before after line → Rises before.err.faults after.err.faults
 said_part before after line (same, says) = fails_later before.err says.between after.err line says.part (tried says.rest)
   where
     tried : {bytes : List ℕ} → Tries says.between after.err bytes → (says.between.faults ≡ after.err.faults) ⊎ Rises says.between.faults after.err.faults

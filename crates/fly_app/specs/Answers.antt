@@ -1,61 +1,25 @@
--- What commands answer, and what they leave. Every command is a case of three definitions: what it asks for (`IsRequest`), which text it
--- prints (`HasText`), and why it has none (`HasRefusal`).
-use Rattle.std.specs.Prelude.{◌≡◌, ◌≢◌, ◌⊎◌, ℕ, List, [], ◌++◌, Option, Some, None, ⊤}
+-- What commands answer, and what they leave. Every command but `run` is a case of three definitions: what it asks for (`IsRequest`), which
+-- text it prints (`HasText`), and why it has none (`HasRefusal`).
+use Rattle.std.specs.Prelude.{◌≡◌, ◌⊎◌, ℕ, List, ◌++◌, Option, ⊤}
 use Rattle.fly_ports.specs.Files.{Contents, FilesState, FailsToRead}
 use Rattle.fly_ports.specs.Sink.{Writes, FailsToWrite, Tries}
-use Rattle.fly_docs.specs.declared.workflow.Bundle.{Bundle}
 use Rattle.fly_docs.specs.declared.closure.Closure.{Closure}
-use Rattle.fly_docs.specs.Acyclic.{RunsAcyclic}
-use Rattle.fly_docs.specs.Closures.{closure_of}
-use Rattle.fly_docs.specs.Typed.{IsTyped}
-use Rattle.fly_schema.specs.declared.fault.DocFault.{DocFault}
-use Rattle.fly_schema.specs.declared.fault.DocKind.TheVariants.{NoMemory}
 use Rattle.fly_writers.specs.Closures.{closure_text}
-use Rattle.fly_idl.specs.Reading.{ReadsBundle, IsFirstFault}
 use Rattle.fly_idl.specs.Rows.{bundle_form}
-use Rattle.fly_faults.specs.FaultList.{faults_of}
 use Rattle.fly_app.specs.declared.status.Status.{Status}
 use Rattle.fly_app.specs.declared.status.Status.TheVariants as statuses
-use Rattle.fly_app.specs.Words.{Request, compile, make, help, version, IsRequest, IsFirstWrong}
-use Rattle.fly_app.specs.Outside.{Outside, IsContent, IsTold, IsUnread, ReadsAll, WritesAll}
-use Rattle.fly_app.specs.Printing.{newline, usage_text, document_line, fault_lines, unread_text, unwritten_text, no_memory_text, FailsToSay}
+use Rattle.fly_app.specs.Words.{Request, compile, make, help, version, IsRequest, IsCommand, IsFirstWrong}
+use Rattle.fly_app.specs.Outside.{Outside, IsTold, IsAbsent, IsUnread, ReadsAll, WritesAll}
+use Rattle.fly_app.specs.Documents.{bundle_word, IsClosureAt, HasDocumentFault, HasBundleFaults}
+use Rattle.fly_app.specs.Printing.{newline, usage_text, unread_text, unwritten_text, no_memory_text, FailsToSay}
 use Rattle.fly_app.specs.Help.{help_text, version_text}
-use Rattle.fly_app.specs.Making.{IsSummary}
+use Rattle.fly_make.specs.Making.{IsSummary}
 
 -- ---- compile
 
--- A file at the path, the one that is told where contents are. It is a bundle that is well typed and acyclic, and this is the text of its
--- closure with a newline.
-pub record HasClosure (contents : Option Contents) (path text : List ℕ) : Type 0 where
-  pub file : List ℕ
-  pub content : IsContent contents path file
-  pub bundle : Bundle
-  pub reads : ReadsBundle file bundle
-  pub faultless : faults_of bundle ≡ []
-  pub typed : IsTyped bundle
-  pub acyclic : RunsAcyclic bundle
-  pub closure : Closure
-  pub compiled : closure_of bundle ≡ Some closure
-  pub printed : text ≡ closure_text closure ++ newline
-
--- a file at the path whose document breaks a rule first here, as the line says
-pub record HasDocumentFault (contents : Option Contents) (path line : List ℕ) : Type 0 where
-  pub file : List ℕ
-  pub content : IsContent contents path file
-  pub fault : DocFault
-  pub first : IsFirstFault bundle_form file fault
-  pub known : fault.kind ≢ NoMemory
-  pub printed : line ≡ document_line fault.kind fault.place
-
--- a file at the path whose bundle is not well typed or not acyclic, and a line for each of its faults
-pub record HasBundleFaults (contents : Option Contents) (path lines : List ℕ) : Type 0 where
-  pub file : List ℕ
-  pub content : IsContent contents path file
-  pub bundle : Bundle
-  pub reads : ReadsBundle file bundle
-  pub faulty : faults_of bundle ≢ []
-  pub not_typed : IsTyped bundle → RunsAcyclic bundle → ⊥
-  pub printed : lines ≡ fault_lines (faults_of bundle)
+-- the text of the closure of the bundle in a file, with a newline
+abbrev pub HasClosure : Option Contents → List ℕ → List ℕ → Type 0
+HasClosure contents path text = (c : Closure) × IsClosureAt contents path c × (text ≡ closure_text c ++ newline)
 
 -- ---- answers
 
@@ -75,7 +39,8 @@ HasText contents version text = text ≡ version_text
 
 -- the lines with which it is refused
 abbrev pub HasRefusal : Option Contents → Request → List ℕ → Type 0
-HasRefusal contents (compile path) lines = HasDocumentFault contents path lines ⊎ HasBundleFaults contents path lines
+HasRefusal contents (compile path) lines =
+    HasDocumentFault bundle_word bundle_form contents path lines ⊎ HasBundleFaults contents path lines
 HasRefusal contents _ lines = ⊥
 
 -- the file at this path is to be read for it
@@ -86,7 +51,7 @@ Wants _ file = ⊥
 -- the words ask for this answer over the old files, which are left as the new
 abbrev pub Asks : List (List ℕ) → FilesState → FilesState → Answer → Type 0
 Asks words old new (Text text) = (r : Request) × IsRequest words r × HasText old.contents r text × (new ≡ old)
-Asks words old new (WrongWord k) = IsFirstWrong words k × (new ≡ old)
+Asks words old new (WrongWord k) = IsFirstWrong IsCommand words k × (new ≡ old)
 Asks words old new (Refusal lines) = (r : Request) × IsRequest words r × HasRefusal old.contents r lines × (new ≡ old)
 Asks words old new (Unread path) = (r : Request) × IsRequest words r × Wants r path × IsUnread old new path
 
@@ -121,17 +86,17 @@ FailsToPrint before after (Unread path) = SaysPart before after (unread_text pat
 
 -- ---- what a command has done
 
--- a command printed the answer that the words ask for
-pub record IsAnswered (words : List (List ℕ)) (before after : Outside) (status : Status) : Type 0 where
+-- a command printed the answer that was asked for
+pub record IsAnswered (asks : FilesState → FilesState → Answer → Type 0) (before after : Outside) (status : Status) : Type 0 where
   pub answer : Answer
-  pub asked : Asks words before.files after.files answer
+  pub asked : asks before.files after.files answer
   pub printed : Prints before after answer
   pub ends : status ≡ status_of answer
 
--- a command could not write the answer that the words ask for
-pub record IsUnwritten (words : List (List ℕ)) (before after : Outside) (status : Status) : Type 0 where
+-- a command could not write the answer that was asked for
+pub record IsUnwritten (asks : FilesState → FilesState → Answer → Type 0) (before after : Outside) (status : Status) : Type 0 where
   pub answer : Answer
-  pub asked : Asks words before.files after.files answer
+  pub asked : asks before.files after.files answer
   pub printed : FailsToPrint before after answer
   pub ends : status ≡ statuses.WriteFault
 
@@ -144,7 +109,7 @@ pub record LacksMemory (before after : Outside) (status : Status) : Type 0 where
 
 abbrev pub HasDone : List (List ℕ) → Outside → Outside → Status → Type 0
 HasDone words before after status =
-    IsAnswered words before after status ⊎ IsUnwritten words before after status ⊎ LacksMemory before after status
+    IsAnswered (Asks words) before after status ⊎ IsUnwritten (Asks words) before after status ⊎ LacksMemory before after status
 
 -- ---- which answer is due
 
@@ -153,14 +118,10 @@ abbrev pub IsKnown : Request → FilesState → FilesState → Type 0
 IsKnown (compile path) old new = IsTold old.contents × ReadsAll old new
 IsKnown _ old new = ⊤
 
--- contents are told, and there is no file at the path
-abbrev pub IsAbsent : Option Contents → List ℕ → Type 0
-IsAbsent contents path = (held : Contents) × (contents ≡ Some held) × (held path ≡ None)
-
 -- this answer is the one
 abbrev pub IsDue : List (List ℕ) → FilesState → FilesState → Answer → Type 0
 IsDue words old new (Text text) = (r : Request) × IsRequest words r × IsKnown r old new × HasText old.contents r text
-IsDue words old new (WrongWord k) = IsFirstWrong words k
+IsDue words old new (WrongWord k) = IsFirstWrong IsCommand words k
 IsDue words old new (Refusal lines) = (r : Request) × IsRequest words r × IsKnown r old new × HasRefusal old.contents r lines
 IsDue words old new (Unread path) = (r : Request) × IsRequest words r × Wants r path × IsAbsent old.contents path
 

@@ -1,46 +1,63 @@
 -- What compiling a file comes to. Private contracts alone cite this file.
 use Rattle.std.specs.Prelude.{◌≡◌, ◌≢◌, ◌⊎◌, ◌++◌, ℕ, List, [], Some, Result, Ok, Err, Vec, string_bytes}
 use Rattle.std.specs.declared.alloc.Global.{Global}
+use Rattle.fly_types.specs.Lookup.{AreVariablesSorted}
 use Rattle.fly_ports.specs.Files.{FilesState}
 use Rattle.fly_docs.specs.declared.workflow.Bundle.{Bundle}
 use Rattle.fly_docs.specs.declared.closure.Closure.{Closure}
 use Rattle.fly_docs.specs.Closures.{closure_of}
-use Rattle.fly_schema.specs.declared.fault.DocFault.{DocFault}
-use Rattle.fly_schema.specs.declared.fault.DocKind.TheVariants as kinds
+use Rattle.fly_docs.specs.TypedClosures.{IsTypedClosure}
 use Rattle.fly_writers.specs.Closures.{closure_text}
-use Rattle.fly_idl.specs.Reading.{IsFirstFault}
 use Rattle.fly_idl.specs.Rows.{bundle_form}
 use Rattle.fly_faults.specs.FaultList.{faults_of}
-use Rattle.fly_app.specs.declared.compiling.Unanswered.{Unanswered}
-use Rattle.fly_app.specs.declared.compiling.Unanswered.TheVariants.{Refused, Unread, NoMemory}
+use Rattle.fly_state.specs.Plans.{plan_for}
+use Rattle.fly_state.specs.PlanTables.{IsPlannable}
+use Rattle.fly_work.specs.Drives.{IsUncached}
+use Rattle.fly_opening.specs.Submissions.{workflow_inputs}
+use Rattle.fly_app.specs.declared.reading.Unanswered.{Unanswered}
+use Rattle.fly_app.specs.declared.reading.Unanswered.TheVariants.{Refused, Unread, NoMemory}
 use Rattle.fly_app.specs.Outside.{IsUnread}
-use Rattle.fly_app.specs.Printing.{newline, document_line, fault_lines}
-use Rattle.fly_app.specs.Answers.{HasClosure, HasDocumentFault, HasBundleFaults}
+use Rattle.fly_app.specs.Printing.{newline, fault_lines}
+use Rattle.fly_app.specs.Documents.{bundle_word, IsClosureAt, HasDocumentFault, HasBundleFaults}
+use Rattle.fly_app.specs.Answers.{HasClosure}
 
--- the lines for the first fault of the bytes
-abbrev pub RefusesBytes : List ℕ → Unanswered → Type 0
-RefusesBytes bytes (Refused lines) =
-    (f : DocFault) × IsFirstFault bundle_form bytes f × (f.kind ≢ kinds.NoMemory) × (string_bytes lines ≡ document_line f.kind f.place)
-RefusesBytes bytes Unread = ⊥
-RefusesBytes bytes NoMemory = Unit {0}
+-- the closure of a bundle without faults, or a line for each fault
+abbrev pub ClosesBundle : Bundle → Result Closure Unanswered → Type 0
+ClosesBundle b (Ok c) = (faults_of b ≡ []) × (closure_of b ≡ Some c) × IsTypedClosure c
+ClosesBundle b (Err (Refused lines)) = (faults_of b ≢ []) × (string_bytes lines ≡ fault_lines (faults_of b))
+ClosesBundle b (Err (Unread path)) = ⊥
+ClosesBundle b (Err NoMemory) = Unit {0}
 
--- a line for each fault of the bundle
-abbrev pub RefusesBundle : Bundle → Unanswered → Type 0
-RefusesBundle b (Refused lines) = (faults_of b ≢ []) × (string_bytes lines ≡ fault_lines (faults_of b))
-RefusesBundle b Unread = ⊥
-RefusesBundle b NoMemory = Unit {0}
+-- what is needed of a closure for a run of it
+pub record IsRunnable (c : Closure) : Type 0 where
+  pub typed : IsTypedClosure c
+  pub plannable : IsPlannable c
+  pub uncached : IsUncached (plan_for c)
+  pub sorted : AreVariablesSorted (workflow_inputs (plan_for c))
 
--- the bundle has no fault, and this is the text of its closure
-pub record HasTextOf (b : Bundle) (text : List ℕ) : Type 0 where
-  pub faultless : faults_of b ≡ []
-  pub closure : Closure
-  pub compiled : closure_of b ≡ Some closure
-  pub printed : text ≡ closure_text closure ++ newline
+-- the lines for a bundle's file that is refused
+abbrev pub RefusesFile : FilesState → FilesState → List ℕ → List ℕ → Type 0
+RefusesFile old new path lines =
+    (HasDocumentFault bundle_word bundle_form old.contents path lines ⊎ HasBundleFaults old.contents path lines)
+    × (new ≡ old)
+
+-- the closure of the bundle in the file at a path, and how reading it leaves the files
+abbrev pub ClosesFile : FilesState → FilesState → List ℕ → Result Closure Unanswered → Type 0
+ClosesFile old new path (Ok c) = IsClosureAt old.contents path c × IsRunnable c × (new ≡ old)
+ClosesFile old new path (Err (Refused lines)) = RefusesFile old new path (string_bytes lines)
+ClosesFile old new path (Err (Unread p)) = (p.now ≡ path) × IsUnread old new path
+ClosesFile old new path (Err NoMemory) = new ≡ old
+
+-- the text of a closure with a newline
+abbrev pub WritesClosure : Closure → Result (Vec ℕ Global) Unanswered → Type 0
+WritesClosure c (Ok text) = text.items ≡ closure_text c ++ newline
+WritesClosure c (Err (Refused lines)) = ⊥
+WritesClosure c (Err (Unread path)) = ⊥
+WritesClosure c (Err NoMemory) = Unit {0}
 
 -- what compiling the file at a path answers, and how it leaves the files
 abbrev pub CompilesFile : FilesState → FilesState → List ℕ → Result (Vec ℕ Global) Unanswered → Type 0
 CompilesFile old new path (Ok text) = HasClosure old.contents path text.items × (new ≡ old)
-CompilesFile old new path (Err (Refused lines)) =
-    (HasDocumentFault old.contents path (string_bytes lines) ⊎ HasBundleFaults old.contents path (string_bytes lines)) × (new ≡ old)
-CompilesFile old new path (Err Unread) = IsUnread old new path
+CompilesFile old new path (Err (Refused lines)) = RefusesFile old new path (string_bytes lines)
+CompilesFile old new path (Err (Unread p)) = (p.now ≡ path) × IsUnread old new path
 CompilesFile old new path (Err NoMemory) = new ≡ old

@@ -1,5 +1,5 @@
 -- The outside of a command: files and two streams.
-use Rattle.std.specs.Prelude.{◌≡◌, ◌⊎◌, List, ℕ, Option, Some, IfSome}
+use Rattle.std.specs.Prelude.{◌≡◌, ◌⊎◌, List, ℕ, Option, Some, None, IfSome}
 use Rattle.fly_ports.specs.Faults.{Rises}
 use Rattle.fly_ports.specs.Files.{Contents, FilesState, Lacks, FailsToRead}
 use Rattle.fly_ports.specs.Sink.{SinkState}
@@ -23,6 +23,10 @@ IsContent contents path file = IfSome contents (λ held. held path ≡ Some file
 -- what the files hold is told
 abbrev pub IsTold : Option Contents → Type 0
 IsTold contents = (held : Contents) × (contents ≡ Some held)
+
+-- contents are told, and there is no file at the path
+abbrev pub IsAbsent : Option Contents → List ℕ → Type 0
+IsAbsent contents path = (held : Contents) × (contents ≡ Some held) × (held path ≡ None)
 
 -- where contents are told, there is no file at the path; or a read failed
 abbrev pub IsUnread : FilesState → FilesState → List ℕ → Type 0

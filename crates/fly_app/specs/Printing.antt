@@ -30,9 +30,9 @@ kind_name kinds.TooDeep = codes "TooDeep"
 kind_name kinds.TooLarge = codes "TooLarge"
 kind_name kinds.NoMemory = []
 
--- the line for a document with this fault at this place
-abbrev pub document_line : DocKind → List ℕ → List ℕ
-document_line kind place = codes "bundle: " ++ kind_name kind ++ codes " " ++ place ++ newline
+-- the line for a document, called by a word, with this fault at this place
+abbrev pub document_line : List ℕ → DocKind → List ℕ → List ℕ
+document_line word kind place = word ++ codes ": " ++ kind_name kind ++ codes " " ++ place ++ newline
 
 -- what a fault of a bundle is called
 abbrev pub code_name : Code → List ℕ

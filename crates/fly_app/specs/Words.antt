@@ -37,13 +37,14 @@ IsRequest words version = words ≡ codes "--version" ∷ []
 abbrev pub IsCommand : List (List ℕ) → Type 0
 IsCommand words = (request : Request) × IsRequest words request
 
--- a command begins with these words
-abbrev pub Begins : List (List ℕ) → Type 0
-Begins words = (rest : List (List ℕ)) × IsCommand (words ++ rest)
+-- words of a grammar begin with these
+abbrev pub Begins : (List (List ℕ) → Type 0) → List (List ℕ) → Type 0
+Begins IsWhole words = (rest : List (List ℕ)) × IsWhole (words ++ rest)
 
--- The first k words begin a command, and with the word k no longer do. Where all words begin one, and more are missing, k is their number.
-pub record IsFirstWrong (words : List (List ℕ)) (k : ℕ) : Type 0 where
-  pub right : Begins (take k words)
+-- The first k words begin words of the grammar, and with the word k no longer do. Where all words begin some, and more
+-- are missing, k is their number.
+pub record IsFirstWrong (IsWhole : List (List ℕ) → Type 0) (words : List (List ℕ)) (k : ℕ) : Type 0 where
+  pub right : Begins IsWhole (take k words)
   pub within : k ≤ length words
-  pub next : k < length words → Begins (take (k + 1) words) → ⊥
-  pub whole : IsCommand words → ⊥
+  pub next : k < length words → Begins IsWhole (take (k + 1) words) → ⊥
+  pub whole : IsWhole words → ⊥

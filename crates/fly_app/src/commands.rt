@@ -6,11 +6,12 @@ ghost use Rattle.fly_app.specs.Words.{IsCompile, IsMake};
 ghost use Rattle.fly_generator.specs.Generated.{most_nodes};
 
 use crate::Status;
-use crate::compiling::{Unanswered, closure_of_file};
+use crate::compiling::closure_line_of_file;
 use crate::help::{HELP, VERSION};
-use crate::making::summary_of;
 use crate::printing::{out_of_memory, print, say, unread_line, usage_line};
+use crate::reading::Unanswered;
 use crate::words::{Command, read_words};
+use fly_make::make_summary;
 use fly_ports::{Files, Sink};
 use fly_types::{NoMemory, Text};
 use std::alloc::Global;
@@ -27,10 +28,10 @@ fn compile<F: Files, O: Sink, E: Sink>(
         → HasDone words (outside (F.state files.old) (O.state out.old) (E.state err.old))
         (outside (F.state files.new) (O.state out.new) (E.state err.new)) result }
 {
-    match closure_of_file(alloc, files, path) {
+    match closure_line_of_file(alloc, files, path) {
         Ok(text) => print(out, err, &text),
         Err(Unanswered::Refused(lines)) => say(err, Ok(lines), Status::Refused),
-        Err(Unanswered::Unread) => say(err, unread_line(alloc, path), Status::ReadFault),
+        Err(Unanswered::Unread(path)) => say(err, unread_line(alloc, path), Status::ReadFault),
         Err(Unanswered::NoMemory) => out_of_memory(err),
     }
 }
@@ -43,7 +44,7 @@ fn make<R, O: Sink, E: Sink>(rt: &R, alloc: Global, count: u32, out: &mut O, err
         → HasDone words (outside files (O.state out.old) (E.state err.old))
         (outside files (O.state out.new) (E.state err.new)) result }
 {
-    match summary_of(rt, alloc, count) {
+    match make_summary(rt, alloc, count) {
         Ok(text) => print(out, err, text.as_bytes()),
         Err(NoMemory) => out_of_memory(err),
     }

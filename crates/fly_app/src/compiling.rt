@@ -1,71 +1,56 @@
-ghost use Rattle.std.specs.Prelude.{◌≡◌, IfOk, IfErr, MatchResult};
-ghost use Rattle.fly_idl.specs.Reading.{ReadsBundle};
+//! The closures of the bundles in files.
 ghost use Rattle.fly_docs.specs.Form.{IsBundleInForm};
-ghost use Rattle.fly_app.specs.Compiling.{CompilesFile, RefusesBytes, RefusesBundle, HasTextOf};
+ghost use Rattle.fly_app.specs.Compiling.{ClosesBundle, ClosesFile, CompilesFile, WritesClosure};
 
-use crate::printing::{document_line, fault_lines};
+use crate::printing::fault_lines;
+use crate::reading::{Unanswered, bundle_of, read_bytes, refusal};
 use fly_compile::{CompileFault, compile, no_faults_exactly_where_typed};
-use fly_docs::Bundle;
-use fly_idl::{DOCUMENT_LIMIT, read_bundle};
-use fly_ports::{Files, ReadFault};
-use fly_schema::{DocFault, DocKind};
-use fly_types::NoMemory;
+use fly_docs::{Bundle, Closure};
+use fly_idl::DOCUMENT_LIMIT;
+use fly_ports::Files;
 use fly_writers::write_closure;
 use std::alloc::Global;
 
-/// Why there is no closure to print.
-#[derive(Debug, Drop)]
-pub enum Unanswered {
-    /// The document is refused, for what these lines say.
-    Refused(String),
-    /// The file is absent or could not be read.
-    Unread,
-    NoMemory,
-}
-
-/// These lines, where there was memory for them.
-fn refusal(lines: Result<String, NoMemory>) -> Unanswered
-    ensures { MatchResult lines (λ l. result ≡ Unanswered.Refused l) (λ e. result ≡ Unanswered.NoMemory) }
+/// The closure of a bundle, or a line for each of its faults.
+fn closure_of<'w>(alloc: Global, bundle: &Bundle) -> Result<Closure, Unanswered<'w>>
+    requires { IsBundleInForm bundle.now }
+    ensures { ClosesBundle bundle.now result }
 {
-    match lines {
-        Ok(lines) => Unanswered::Refused(lines),
-        Err(NoMemory) => Unanswered::NoMemory,
-    }
-}
-
-/// The bundle whose document the bytes are.
-fn bundle_of(alloc: Global, bytes: &[u8]) -> Result<Bundle, Unanswered>
-    ensures ok { IfOk result (ReadsBundle bytes.now) }
-    ensures form { IfOk result IsBundleInForm }
-    ensures err { IfErr result (RefusesBytes bytes.now) }
-{
-    match read_bundle(alloc, bytes) {
-        Ok(bundle) => Ok(bundle),
-        Err(
-            DocFault {
-                kind: DocKind::NoMemory,
-                ..
-            },
-        ) => Err(Unanswered::NoMemory),
-        Err(fault) => Err(refusal(document_line(alloc, fault.kind, fault.place.as_str()))),
-    }
-}
-
-/// The text of the bundle's closure, with a newline. The bundle is given up before the text is written.
-fn closure_text_of(alloc: Global, bundle: Bundle) -> Result<Vec<u8>, Unanswered>
-    requires { IsBundleInForm bundle }
-    ensures ok { IfOk result (λ text. HasTextOf bundle text.items) }
-    ensures err { IfErr result (RefusesBundle bundle) }
-{
-    let closure = match compile(alloc, &bundle) {
-        Ok(closure) => closure,
+    match compile(alloc, bundle) {
+        Ok(closure) => Ok(closure),
         Err(CompileFault::Refused(faults)) => {
-            return Err(refusal(fault_lines(alloc, faults.as_slice())));
+            Err(refusal(fault_lines(alloc, faults.as_slice())))
         }
-        Err(CompileFault::NoMemory) => return Err(Unanswered::NoMemory),
+        Err(CompileFault::NoMemory) => Err(Unanswered::NoMemory),
+    }
+}
+
+/// The closure of the bundle in a file. The document and the bundle are given up.
+pub(crate) fn closure_of_file<'w, F: Files>(
+    alloc: Global,
+    files: &mut F,
+    path: &'w str,
+) -> Result<Closure, Unanswered<'w>>
+    ensures { ClosesFile (F.state files.old) (F.state files.new) path.now result }
+{
+    let bytes = match read_bytes(alloc, files, path, DOCUMENT_LIMIT) {
+        Ok(bytes) => bytes,
+        Err(unanswered) => return Err(unanswered),
     };
-    drop(bundle);
-    let Ok(mut text) = write_closure(alloc, &closure) else {
+    let bundle = match bundle_of(alloc, &bytes) {
+        Ok(bundle) => bundle,
+        Err(unanswered) => return Err(unanswered),
+    };
+    drop(bytes);
+    no_faults_exactly_where_typed();
+    closure_of(alloc, &bundle)
+}
+
+/// The text of a closure, with a newline.
+fn closure_line<'w>(alloc: Global, closure: &Closure) -> Result<Vec<u8>, Unanswered<'w>>
+    ensures { WritesClosure closure.now result }
+{
+    let Ok(mut text) = write_closure(alloc, closure) else {
         return Err(Unanswered::NoMemory);
     };
     match text.push(b'\n') {
@@ -75,24 +60,15 @@ fn closure_text_of(alloc: Global, bundle: Bundle) -> Result<Vec<u8>, Unanswered>
 }
 
 /// The text of the closure of the bundle in a file, with a newline.
-pub fn closure_of_file<F: Files>(
+pub(crate) fn closure_line_of_file<'w, F: Files>(
     alloc: Global,
     files: &mut F,
-    path: &str,
-) -> Result<Vec<u8>, Unanswered>
+    path: &'w str,
+) -> Result<Vec<u8>, Unanswered<'w>>
     ensures { CompilesFile (F.state files.old) (F.state files.new) path.now result }
 {
-    let bytes = match files.read(alloc, path, DOCUMENT_LIMIT) {
-        Ok(bytes) => bytes,
-        Err(ReadFault::Failed) => return Err(Unanswered::Unread),
-        Err(ReadFault::Absent) => return Err(Unanswered::Unread),
-        Err(ReadFault::NoMemory) => return Err(Unanswered::NoMemory),
-    };
-    let bundle = match bundle_of(alloc, &bytes) {
-        Ok(bundle) => bundle,
-        Err(refused) => return Err(refused),
-    };
-    drop(bytes);
-    no_faults_exactly_where_typed();
-    closure_text_of(alloc, bundle)
+    match closure_of_file(alloc, files, path) {
+        Ok(closure) => closure_line(alloc, &closure),
+        Err(unanswered) => Err(unanswered),
+    }
 }

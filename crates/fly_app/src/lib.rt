@@ -1,15 +1,16 @@
 //! The commands of `flyte`, and the top call that runs one.
 #![tactic(auto)]
 
+mod accepting;
 mod commands;
 mod compiling;
 mod help;
-mod in_store;
-mod making;
-mod phases;
 mod printing;
+mod reading;
+mod run_line;
+mod run_words;
+mod running;
 mod status;
-mod summary;
 mod top;
 mod words;
 

@@ -1,7 +1,8 @@
 ghost use Rattle.std.specs.Prelude.{◌≡◌, ◌≢◌, ◌++◌, IfOk, OnOk, MatchResult, string_bytes};
 ghost use Rattle.fly_ports.specs.Sink.{Tries};
 ghost use Rattle.fly_schema.specs.declared.fault.DocKind.{DocKind};
-ghost use Rattle.fly_app.specs.Printing.{PrintsText, SaysLine, no_memory_text, kind_name as name_of_kind, code_name as name_of_code, usage_text, document_line as line_of_document, fault_line as line_of_fault, fault_lines as lines_of_faults, unread_text};
+ghost use Rattle.fly_app.specs.Printing.{PrintsText, SaysLine, no_memory_text, kind_name as name_of_kind, code_name as name_of_code, usage_text, document_line as line_of_document, fault_line as line_of_fault, fault_lines as lines_of_faults, unread_text, unwritten_text};
+ghost use Rattle.fly_app.specs.RunRefusals.{not_empty_line as line_of_journal};
 
 use crate::Status;
 use fly_compile::{Code, Fault};
@@ -66,12 +67,17 @@ pub fn usage_line(alloc: Global, word: usize) -> Result<String, NoMemory>
     Ok(format!(in alloc; "usage: word {word}\n")?)
 }
 
-/// The fault of a document, with its place.
-pub fn document_line(alloc: Global, kind: DocKind, place: &str) -> Result<String, NoMemory>
-    ensures { IfOk result (λ line. string_bytes line ≡ line_of_document kind place.now) }
+/// The fault of a document, which a word names, with its place.
+pub fn document_line(
+    alloc: Global,
+    word: &str,
+    kind: DocKind,
+    place: &str,
+) -> Result<String, NoMemory>
+    ensures { IfOk result (λ line. string_bytes line ≡ line_of_document word.now kind place.now) }
 {
     let name = kind_name(kind);
-    Ok(format!(in alloc; "bundle: {name} {place}\n")?)
+    Ok(format!(in alloc; "{word}: {name} {place}\n")?)
 }
 
 /// Adds the line of a fault: its code, its place, and what more there is to say.
@@ -99,6 +105,13 @@ pub fn fault_lines(alloc: Global, faults: &[Fault]) -> Result<String, NoMemory>
         add_fault_line(&mut lines, fault)?;
     }
     Ok(lines)
+}
+
+/// That a journal has bytes.
+pub fn not_empty_line(alloc: Global) -> Result<String, NoMemory>
+    ensures { IfOk result (λ line. string_bytes line ≡ line_of_journal) }
+{
+    Ok(String::from_str(alloc, "journal: NotEmpty /\n")?)
 }
 
 /// The file that could not be read.
@@ -148,6 +161,15 @@ pub fn out_of_memory<E: Sink>(err: &mut E) -> Status
 {
     try_to_put(err, OUT_OF_MEMORY);
     Status::NoMemory
+}
+
+/// Says that something can't be written, as far as that can be said.
+pub fn cannot_write<E: Sink>(err: &mut E) -> Status
+    ensures status { result ≡ Status.WriteFault }
+    ensures tried { Tries (E.state err.old) (E.state err.new) unwritten_text }
+{
+    try_to_put(err, CANNOT_WRITE);
+    Status::WriteFault
 }
 
 /// Says why there is no text, where there was memory for the line.

@@ -1,5 +1,5 @@
 ghost use Rattle.std.specs.Prelude.{◌≡◌, ◌∷◌, codes, IfOk, IfErr};
-ghost use Rattle.fly_app.specs.Words.{IsCompile, IsMake, IsRequest, IsFirstWrong, is_option as begins_as_option};
+ghost use Rattle.fly_app.specs.Words.{IsCompile, IsMake, IsRequest, IsCommand, IsFirstWrong, is_option as begins_as_option};
 ghost use Rattle.fly_app.specs.Command.{request_of};
 
 use fly_docs::read_number;
@@ -20,7 +20,7 @@ pub enum Command<'w> {
 }
 
 /// Whether the word is an option.
-fn is_option(word: &str) -> bool
+pub(crate) fn is_option(word: &str) -> bool
     ensures { result ≡ begins_as_option word.now }
 {
     word.as_bytes().starts_with(b"--")
@@ -29,7 +29,7 @@ fn is_option(word: &str) -> bool
 /// The file that stands behind the word `compile`, or the number of the first wrong word.
 fn file_of(rest: &[Text]) -> Result<&str, usize>
     ensures file { IfOk result (λ path. IsCompile (codes "compile" ∷ rest.now) path.now) }
-    ensures wrong { IfErr result (λ k. IsFirstWrong (codes "compile" ∷ rest.now) k) }
+    ensures wrong { IfErr result (λ k. IsFirstWrong IsCommand (codes "compile" ∷ rest.now) k) }
 {
     let Some((path, more)) = rest.split_first() else {
         return Err(1);
@@ -47,7 +47,7 @@ fn file_of(rest: &[Text]) -> Result<&str, usize>
 /// The number of nodes that stands behind the word `make`, or the number of the first wrong word.
 fn count_of(rest: &[Text]) -> Result<u32, usize>
     ensures count { IfOk result (λ n. IsMake (codes "make" ∷ rest.now) n) }
-    ensures wrong { IfErr result (λ k. IsFirstWrong (codes "make" ∷ rest.now) k) }
+    ensures wrong { IfErr result (λ k. IsFirstWrong IsCommand (codes "make" ∷ rest.now) k) }
 {
     let Some((word, more)) = rest.split_first() else {
         return Err(1);
@@ -65,7 +65,7 @@ fn count_of(rest: &[Text]) -> Result<u32, usize>
 /// number of the words.
 pub fn read_words(words: &[Text]) -> Result<Command<'_>, usize>
     ensures command { IfOk result (λ c. IsRequest words.now (request_of c)) }
-    ensures wrong { IfErr result (λ k. IsFirstWrong words.now k) }
+    ensures wrong { IfErr result (λ k. IsFirstWrong IsCommand words.now k) }
 {
     let Some((command, rest)) = words.split_first() else {
         return Err(0);
