@@ -1,4 +1,5 @@
 use crate::content::Documents;
+use crate::hands::{MemHand, crew};
 use anyhow::{Context, Error, Result, anyhow};
 use fly_ports::{MemFile, MemFiles, MemSink};
 use fly_types::{Bytes, List, NoMemory, Text};
@@ -23,12 +24,14 @@ pub struct Case {
     pub before: Vec<(String, Option<String>)>,
     pub out: MemSink,
     pub err: MemSink,
+    pub crew: Vec<MemHand>,
 }
 
 impl Case {
     /// The case that a line says: its name under `case`, its `words`, what each path of `files` has (null is no
-    /// file), which reads and appends fail (`bad_reads`, `bad_appends`, numbered from 1), and for `out` and `err`
-    /// the `room` and the calls that fail (`bad`).
+    /// file) and for how many bytes in all some have room (`rooms`), which reads and appends fail (`bad_reads`,
+    /// `bad_appends`, numbered from 1), for `out` and `err` the `room` and the calls that fail (`bad`), and the
+    /// [`crew`].
     pub fn read(alloc: Global, documents: &Documents, line: &Value) -> Result<Case> {
         let name = line
             .get("case")
@@ -37,7 +40,7 @@ impl Case {
         let before = contents(alloc, documents, line.get("files"))?;
         let files = MemFiles::make(
             alloc,
-            List::from_vec(memory_files(alloc, &before)?),
+            List::from_vec(memory_files(alloc, &before, line.get("rooms"))?),
             numbers(alloc, line.get("bad_reads"))?,
             numbers(alloc, line.get("bad_appends"))?,
         )
@@ -49,6 +52,7 @@ impl Case {
             before,
             out: sink(alloc, line.get("out"))?,
             err: sink(alloc, line.get("err"))?,
+            crew: crew(alloc, documents, line)?,
         })
     }
 }
@@ -83,7 +87,11 @@ fn contents(
     Ok(all)
 }
 
-fn memory_files(alloc: Global, contents: &[(String, Option<String>)]) -> Result<Vec<MemFile>> {
+fn memory_files(
+    alloc: Global,
+    contents: &[(String, Option<String>)],
+    rooms: Option<&Value>,
+) -> Result<Vec<MemFile>> {
     let mut all = Vec::new(alloc);
     for (path, content) in contents {
         let content = match content {
@@ -93,7 +101,10 @@ fn memory_files(alloc: Global, contents: &[(String, Option<String>)]) -> Result<
         all.push(MemFile {
             path: Text::from_str(alloc, path).map_err(wants_memory)?,
             content,
-            room: ROOM,
+            room: rooms
+                .and_then(|rooms| rooms.get(path.as_str()))
+                .and_then(Value::as_u64)
+                .unwrap_or(ROOM),
         })?;
     }
     Ok(all)
@@ -108,7 +119,8 @@ fn sink(alloc: Global, sink: Option<&Value>) -> Result<MemSink> {
     MemSink::make(alloc, room, bad).map_err(wants_memory)
 }
 
-fn numbers(alloc: Global, numbers: Option<&Value>) -> Result<List<u64>> {
+/// The whole numbers of a list.
+pub fn numbers(alloc: Global, numbers: Option<&Value>) -> Result<List<u64>> {
     let mut all = Vec::new(alloc);
     for number in numbers.and_then(Value::as_array).into_iter().flatten() {
         all.push(number.as_u64().context("a number")?)?;

@@ -1,6 +1,6 @@
 //! Runs cases that are data: each line of standard input is one JSON object. It is a document that later lines name; or
-//! a case, whose words are run by the top call over files and streams in memory; or a document that is read; or a bundle
-//! that is compiled; or a call of one function. What each came to is printed.
+//! a case, whose words are run by the top call over files, streams and children in memory; or a document that is read;
+//! or a bundle that is compiled; or a run that is driven; or a call of one function. What each came to is printed.
 //!
 //! A bundle stands under `compile`, in a form of this program's own from which it is built without the reader of
 //! documents, so that a case has whatever a bundle may have. A list that is empty may be left out.
@@ -30,18 +30,19 @@ mod compiling;
 mod conditions;
 mod content;
 mod driving;
+mod hands;
 mod messages;
 mod nodes;
 mod outcome;
 mod reading;
 
-use anyhow::{Context, Result};
+use anyhow::{Context, Result, bail};
 use calls::make_call;
 use case::Case;
 use compiling::compile_bundle;
 use content::Documents;
 use driving::drive_run;
-use fly_ports::{Hand, ListClock, OpenGate, TableSpawner};
+use hands::HANDS;
 use outcome::Outcome;
 use reading::read_document;
 use serde_json::Value;
@@ -59,8 +60,11 @@ fn run<R: Threads + Wait + Sync>(rt: &R, alloc: Global, case: Case) -> Result<Ou
         before,
         mut out,
         mut err,
+        mut crew,
     } = case;
-    let mut crew: Vec<Hand<TableSpawner, ListClock, OpenGate>> = Vec::new(alloc);
+    if crew.len() != HANDS {
+        bail!("a crew of another size");
+    }
     let status = fly_app::flyte(rt, alloc, &words, &mut files, &mut out, &mut err, &mut crew);
     Ok(Outcome {
         name,
@@ -69,6 +73,7 @@ fn run<R: Threads + Wait + Sync>(rt: &R, alloc: Global, case: Case) -> Result<Ou
         err,
         files,
         before,
+        crew,
     })
 }
 

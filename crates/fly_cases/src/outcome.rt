@@ -1,3 +1,4 @@
+use crate::hands::{MemHand, print_hand};
 use fly_app::Status;
 use fly_ports::{MemFiles, MemSink};
 use std::io::{self, Write};
@@ -12,12 +13,13 @@ pub struct Outcome {
     pub files: MemFiles,
     /// The paths, each with what it held before.
     pub before: Vec<(String, Option<String>)>,
+    pub crew: Vec<MemHand>,
 }
 
 impl Outcome {
     /// Prints the name with the status, and then what standard output, standard error and each file that changed
-    /// got, a line each behind its name.
-    pub fn print<W: Write>(&self, writer: &mut W) -> io::Result<()> {
+    /// got, a line each behind its name, and what the crew did.
+    pub fn print<W: Write>(&mut self, writer: &mut W) -> io::Result<()> {
         let name = self.name.as_str();
         let status = self.status as u8;
         writeln!(writer, "{name}: {status}")?;
@@ -29,6 +31,9 @@ impl Outcome {
             if now != was {
                 print_lines(writer, path, now.unwrap_or(b""))?;
             }
+        }
+        for hand in self.crew.iter_mut() {
+            print_hand(writer, hand)?;
         }
         Ok(())
     }
