@@ -1,0 +1,9 @@
+pub mod KnownSame
+pub mod Kept
+pub mod AttemptsKept
+pub mod StandingKept
+pub mod EnteringKept
+pub mod InInstance
+pub mod VerdictKept
+pub mod RuleKept
+pub mod SeenKept

@@ -1,0 +1,4 @@
+pub mod Results
+pub mod Attempts
+pub mod Evaluation
+pub mod Laws
