@@ -1,0 +1,11 @@
+pub mod FirstAgrees
+pub mod LaterAgrees
+pub mod Points
+pub mod Sights
+pub mod AttemptEnds
+pub mod Signs
+pub mod StandingSeen
+pub mod NodeSlots
+pub mod NodeSteps
+pub mod RootClose
+pub mod RoundAgrees
