@@ -12,3 +12,4 @@ mod values;
 
 pub use laws::legal_entries_have_lines;
 pub use line::write_line;
+pub use moves::{slot_text, step_word};

@@ -11,8 +11,8 @@ use fly_state::{At, Move, Plan, Step};
 use fly_types::NoMemory;
 use std::alloc::Global;
 
-/// The word of a step.
-fn step_word(step: &Step) -> &'static str
+/// The word of a step in the journal.
+pub fn step_word(step: &Step) -> &'static str
     ensures { result.now ≡ word_of_step step.now }
 {
     match step {
@@ -32,8 +32,9 @@ fn step_word(step: &Step) -> &'static str
     }
 }
 
-/// A point for the root, else the path of the node, with the number of the item behind it.
-fn slot_text(alloc: Global, plan: &Plan, at: &At) -> Result<String, NoMemory>
+/// The text of a slot of the plan in the journal: a point for the root, else the path of the node, with the number of the
+/// item behind it.
+pub fn slot_text(alloc: Global, plan: &Plan, at: &At) -> Result<String, NoMemory>
     requires { is_in_plan plan.now at.now ≡ true }
     ensures { IfOk result (λ text. string_bytes text ≡ text_of_slot plan.now at.now.node at.now.item) }
 {

@@ -6,7 +6,6 @@ use Rattle.std.proofs.lemmas.Bool.{cases_Bool, false≢true, and_from, lt-ltb}
 use Rattle.std.proofs.lemmas.Option.{none-some, same_Some, slice_get_within}
 use Rattle.std.proofs.lemmas.Slice.Eq.{bytes_eq-Decides}
 use Rattle.fly_types.specs.declared.literals.LiteralMap.{LiteralMap}
-use Rattle.fly_types.specs.declared.variable.Variable.{Variable}
 use Rattle.fly_docs.specs.declared.binding.Binding.{Binding}
 use Rattle.fly_docs.specs.declared.node.Node.{Node}
 use Rattle.fly_docs.specs.declared.task.Task.{Task}
@@ -15,7 +14,7 @@ use Rattle.fly_docs.specs.Bindings.{Promised, sources_of}
 use Rattle.fly_docs.specs.Fitting.{bound_fits}
 use Rattle.fly_docs.specs.NodeInterfaces.{Source}
 use Rattle.fly_docs.specs.Plans.{PlanNode}
-use Rattle.fly_docs.specs.SlotInputs.{Taken, bound_value, values_of}
+use Rattle.fly_docs.specs.SlotInputs.{Taken, workflow_outputs}
 use Rattle.fly_state.specs.declared.slots.ExecState.{ExecState}
 use Rattle.fly_state.specs.declared.slots.SlotState.{SlotState}
 use Rattle.fly_state.specs.declared.moves.Move.{Move}
@@ -65,19 +64,16 @@ module _ (plan : RunPlan) (w : Workflow) (outer : IsOuterPlan plan w) where
           subst (λ (q : PlanNode). fits q.node t) own
           (subst (fits n) same (fit-variables plan w outer i n there task.0.interface.inputs task.2))
 
-  -- a run that may close, without failure and without a missing output, closes by what comes of its variables
-  pub closes-with : (s : ExecState) (bindings : List Binding) (variables : List Variable) (taken : Taken LiteralMap)
+  -- a run that may close, without failure and without a missing output, closes by its outputs
+  pub closes-with : (s : ExecState) (bindings : List Binding) (taken : Taken LiteralMap)
       → is_some (closed_instance_slot plan s []) ≡ true → has_failure plan s [] ≡ false
-      → bindings ≡ w.outputs → skips_one plan s (sources_of bindings) ≡ false → variables ≡ w.interface.outputs
-      → values_of (bound_value (source_in_run plan) (known_in plan s [])) variables w.outputs ≡ taken
+      → bindings ≡ w.outputs → skips_one plan s (sources_of bindings) ≡ false
+      → workflow_outputs plan.documents w (known_in plan s []) ≡ taken
       → (is_some (slot_with_outputs s.root taken) ≡ true)
       × (closed_instance_slot plan s [] ≡ slot_with_outputs s.root taken)
-  closes-with s bindings variables taken closes failure bound skips declared is =
-      let known = known_in plan s [] in
-      let same = sources-same plan w outer in
+  closes-with s bindings taken closes failure bound skips is =
       closed-outputs plan s w outer.named taken closes failure
-      (ap (λ xs. skips_one plan s (sources_of xs)) (sym bound) ∙ skips)
-      ((λ k. values_of (bound_value (sym same k) known) (sym declared k) w.outputs) ∙ is)
+      (ap (λ xs. skips_one plan s (sources_of xs)) (sym bound) ∙ skips) is
 
 -- ---- items
 

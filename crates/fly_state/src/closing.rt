@@ -19,8 +19,8 @@ use crate::{ExecState, Phase, Plan, Standing, Step};
 use fly_docs::{Binding, Bound};
 use fly_types::Text;
 
-/// Whether a node of the run's own instance failed.
-pub(crate) fn has_failure(plan: &Plan, state: &ExecState) -> bool
+/// Whether a node of the run's own instance failed. One pass over the nodes.
+pub fn has_failure(plan: &Plan, state: &ExecState) -> bool
     ensures { result ≡ words.has_failure plan.now state.now [] }
 {
     let _primary = plan.primary();
@@ -116,7 +116,7 @@ fn has_outputs(plan: &Plan, state: &ExecState) -> bool
 }
 
 /// Whether one of the bindings promises from a node that was skipped.
-pub(crate) fn misses_output(plan: &Plan, state: &ExecState, outputs: &[Binding]) -> bool
+pub fn misses_output(plan: &Plan, state: &ExecState, outputs: &[Binding]) -> bool
     ensures { result ≡ skips_one plan.now state.now (sources_of outputs.now) }
 {
     for binding in outputs {

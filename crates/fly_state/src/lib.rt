@@ -26,9 +26,11 @@ mod slots;
 mod standing;
 mod steps;
 mod tables;
+mod taking;
 mod values;
 mod view;
 
+pub use closing::{has_failure, misses_output};
 pub use effects::{Effect, effect_of};
 pub use entries::{Entry, Op, Reply};
 pub use faults::InputFault;
@@ -42,4 +44,6 @@ pub use reads::phase_at;
 pub use slots::{ExecState, NodeState, SlotState};
 pub use standing::{Standing, standings};
 pub use steps::{can_run_close, is_run_broken, is_step};
+pub use taking::{run_outputs, task_inputs};
+pub use values::ValueFault;
 pub use view::{Known, View};

@@ -1,20 +1,17 @@
 //! What legal steps make of the slot of a task node.
-ghost use Rattle.std.specs.Prelude.{◌≡◌, ◌<◌, ◌+◌, [], Some, None, length, IfOk};
-ghost use Rattle.fly_docs.specs.Plans.{PlanNode};
+ghost use Rattle.std.specs.Prelude.{◌≡◌, ◌<◌, ◌+◌, [], Some, length, IfOk};
 ghost use Rattle.fly_state.specs.declared.moves.Step.TheVariants as step;
 ghost use Rattle.fly_state.specs.declared.phase.Phase.TheVariants as phase;
-ghost use Rattle.fly_state.specs.Inputs.{inputs_of_node};
 ghost use Rattle.fly_state.specs.Moves as words;
 ghost use Rattle.fly_state.specs.NodeSlots.{HasEffect, MakesSlot};
 ghost use Rattle.fly_state.specs.OfPlan.{IsOfPlan};
-ghost use Rattle.fly_state.specs.Plans.{node_numbered};
 ghost use Rattle.fly_state.specs.States.{own_state};
-ghost use Rattle.fly_state.specs.Values.{IsTaken};
 
 use crate::settling::settled_slot;
-use crate::values::{ValueFault, take_variables};
+use crate::taking::task_inputs;
+use crate::values::ValueFault;
 use crate::{Entry, ExecState, Phase, Plan, Reply, SlotState, Step, View};
-use fly_types::{LiteralMap, NoMemory, Text};
+use fly_types::{NoMemory, Text};
 use std::alloc::Global;
 
 /// What a step makes of a node's own slot, where it has an effect.
@@ -86,31 +83,6 @@ pub(crate) fn failed_slot(alloc: Global, slot: SlotState, code: &str) -> Result<
     Ok(slot)
 }
 
-/// What a task node takes.
-fn inputs_of_task(
-    alloc: Global,
-    p: &Plan,
-    state: &ExecState,
-    number: u32,
-) -> Result<LiteralMap, ValueFault>
-    requires of_plan { IsOfPlan p.now state.now }
-    requires number { number < length p.now.nodes }
-    ensures { (n : PlanNode) → node_numbered p.now number ≡ Some n → IsTaken (inputs_of_node p.now state.now n None) result }
-{
-    p.primary();
-    let Some(task) = p.task(number) else {
-        return Err(ValueFault::Unknown);
-    };
-    take_variables(
-        alloc,
-        p,
-        state,
-        task.interface.inputs.as_slice(),
-        &p.node(number).inputs,
-        p.bindings(number),
-    )
-}
-
 /// The node takes its inputs.
 fn queued_slot(alloc: Global, p: &Plan, v: &View, number: u32) -> Result<SlotState, NoMemory>
     requires of_plan { IsOfPlan p.now v.now.state }
@@ -119,7 +91,7 @@ fn queued_slot(alloc: Global, p: &Plan, v: &View, number: u32) -> Result<SlotSta
     ensures { IfOk result (MakesSlot p.now v.now [] number step.Queue) }
 {
     p.primary();
-    match inputs_of_task(alloc, p, &v.state, number) {
+    match task_inputs(alloc, p, &v.state, number) {
         Ok(inputs) => {
             let mut slot = own_slot(alloc, &v.state, number)?;
             slot.phase = Phase::Queued;
@@ -140,7 +112,7 @@ fn input_failed_slot(alloc: Global, p: &Plan, v: &View, number: u32) -> Result<S
     ensures { IfOk result (MakesSlot p.now v.now [] number step.InputFail) }
 {
     p.primary();
-    match inputs_of_task(alloc, p, &v.state, number) {
+    match task_inputs(alloc, p, &v.state, number) {
         Err(ValueFault::Outside(_)) => {
             failed_slot(alloc, own_slot(alloc, &v.state, number)?, "EnumOutside")
         }

@@ -146,8 +146,8 @@ impl Plan {
         numbers.get(&path[0]).copied()
     }
 
-    /// The numbers, each behind those that it looks at.
-    pub(crate) fn order(&self) -> &[u32]
+    /// The numbers of the nodes, each behind those that it looks at.
+    pub fn order(&self) -> &[u32]
         ensures { IsLookOrder (looks self.now) (length self.now.nodes) result.now }
     {
         self.order.as_slice()
@@ -235,8 +235,9 @@ impl Plan {
         self.sites.as_slice()[number as usize].looks.as_slice()
     }
 
-    /// How the node of this number stands, where those that it looks at stand as is known.
-    pub(crate) fn standing_by(&self, state: &ExecState, number: u32, known: &[Standing]) -> Standing
+    /// How the node of this number stands in a state, where those that it looks at stand as is known. Who isn't known counts
+    /// as blocked. Costs what the node looks at.
+    pub fn standing_by(&self, state: &ExecState, number: u32, known: &[Standing]) -> Standing
         requires { number < length self.now.nodes }
         ensures { meaning_of result
             ≡ standing_by self.now state.now number (values_at (known_standing known.now) (looks self.now number)) }

@@ -5,7 +5,8 @@ ghost use Rattle.fly_state.specs.OfPlan.{IsOfPlan};
 
 use crate::closing::{has_failure, misses_output};
 use crate::node_slots::failed_slot;
-use crate::values::{ValueFault, take_variables};
+use crate::taking::run_outputs;
+use crate::values::ValueFault;
 use crate::{ExecState, Phase, Plan, SlotState};
 use fly_types::NoMemory;
 use std::alloc::Global;
@@ -24,14 +25,7 @@ pub(crate) fn closed_root(alloc: Global, p: &Plan, state: &ExecState) -> Result<
     if misses_output(p, state, primary.outputs.as_slice()) {
         return failed_slot(alloc, slot, "OutputMissing");
     }
-    match take_variables(
-        alloc,
-        p,
-        state,
-        primary.interface.outputs.as_slice(),
-        &primary.outputs,
-        p.output_bindings(),
-    ) {
+    match run_outputs(alloc, p, state) {
         Ok(outputs) => {
             slot.phase = Phase::Succeeded;
             slot.outputs = Some(outputs);

@@ -24,7 +24,7 @@ use std::alloc::{AllocError, AllocFailed, Global};
 
 /// Why a value is not there.
 #[derive(Debug, Drop)]
-pub(crate) enum ValueFault {
+pub enum ValueFault {
     /// This text is no value of its enum.
     Outside(Text),
     /// Something that it is made of is not known.

@@ -117,7 +117,8 @@ ended-not_succeeding _ final = refl
 
 -- ---- tasks that are not cached
 
-uncached-task : (plan : RunPlan) (p : PlanNode) → IsUncached plan → is_cached plan p ≡ false
+-- of which no task is cached, no node is
+pub uncached-task : (plan : RunPlan) (p : PlanNode) → IsUncached plan → is_cached plan p ≡ false
 uncached-task plan p uncached = by (out-Target p.node.target)
   where
     any : (o : Option Task) → ((t : Task) → o ≡ Some t → t.cached ≡ false)

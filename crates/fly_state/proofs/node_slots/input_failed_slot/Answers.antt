@@ -6,7 +6,12 @@ use Rattle.fly_state.specs.PlanTables.{outer_node}
 use Rattle.fly_state.specs.Values.{IsTaken}
 use Rattle.fly_state.proofs.EffectLemmas.{failed-taken}
 use Rattle.fly_state.proofs.OuterPlans.{planned-outer}
+use Rattle.fly_state.proofs.OuterTypes.{known-types}
 use Rattle.fly_state.proofs.node_slots.input_failed_slot.Goals as goal
+
+pub task_inputs-requires-clause-known : goal.task_inputs-requires-clause-known
+task_inputs-requires-clause-known c =
+    known-types c.args.p.now c.primary.result.now c.primary.ensures c.args.v.now.state c.requires.of_plan
 
 pub unreachable-requires : goal.unreachable-requires
 unreachable-requires c =

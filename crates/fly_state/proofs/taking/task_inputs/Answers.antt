@@ -12,24 +12,19 @@ use Rattle.fly_state.specs.States.{known_in}
 use Rattle.fly_state.specs.Values.{IsTaken, FitVariables}
 use Rattle.fly_state.proofs.EffectNodes.{fit-inputs}
 use Rattle.fly_state.proofs.OuterPlans.{planned-outer}
-use Rattle.fly_state.proofs.OuterTypes.{known-types}
 use Rattle.fly_state.proofs.TaskNodes.{task-node}
-use Rattle.fly_state.proofs.node_slots.inputs_of_task.Goals as goal
+use Rattle.fly_state.proofs.taking.task_inputs.Goals as goal
 
 pub returns-in_default : goal.returns-in_default
 returns-in_default c = λ n planned.
-    let plan = c.args.p.now in
+    let plan = c.args.plan.now in
     let node = task-node plan c.primary.result.now c.primary.ensures c.args.state.now c.args.number n planned in
     let runs = c.task.ensures ∙ ap (option_and_then (task_of plan)) planned ∙ node.runs in
     absurd (none-some node.task (sym (ap option_copied c.in_default.is) ∙ runs))
 
-pub take_variables-requires-clause-known : goal.take_variables-requires-clause-known
-take_variables-requires-clause-known c =
-    known-types c.args.p.now c.primary.result.now c.primary.ensures c.args.state.now c.requires.of_plan
-
 pub take_variables-requires-clause-fit : goal.take_variables-requires-clause-fit
 take_variables-requires-clause-fit c =
-    let plan = c.args.p.now in
+    let plan = c.args.plan.now in
     let w = c.primary.result.now in
     let i = c.args.number in
     let task = c.in-Some.task.now in
@@ -46,7 +41,7 @@ take_variables-requires-clause-fit c =
 
 pub returns : goal.returns
 returns c = λ n planned.
-    let plan = c.args.p.now in
+    let plan = c.args.plan.now in
     let s = c.args.state.now in
     let node = task-node plan c.primary.result.now c.primary.ensures s c.args.number n planned in
     let runs = c.task.ensures ∙ ap (option_and_then (task_of plan)) planned ∙ node.runs in
