@@ -20,13 +20,15 @@ use Rattle.fly_state.specs.PlanTables.{IsOuterPlan}
 use Rattle.fly_world.specs.World.{World, Execution}
 use Rattle.fly_world.specs.Journals.{IsHistory, Step, beginning}
 use Rattle.fly_world.specs.Kept.{Kept, IsLegal}
-use Rattle.fly_world.specs.Laws.{IsPrefix, PrefixesAreLegal, StepsExtend, WritesAreRounds, LaunchesAreSingle, WorldsAreOfPlan, submission_of}
+use Rattle.fly_world.specs.Laws.{IsPrefix, PrefixesAreLegal, StepsExtend, WritesAreRounds, LaunchesAreSingle, WorldsAreOfPlan, FinalSlotsStay, submission_of}
+use Rattle.fly_history.specs.Laws.{LegalJournalsAgree}
 use Rattle.fly_round.specs.declared.told.Told.{Told}
 use Rattle.fly_work.specs.declared.driving.DriveFault.{DriveFault}
 use Rattle.fly_work.specs.declared.driving.DriveFault.TheVariants as fault
 use Rattle.fly_work.specs.Children.{Child}
-use Rattle.fly_work.specs.Drives.{AreTurns, EndsIdle, turn_numbered}
+use Rattle.fly_work.specs.Drives.{AreTurns, EndsIdle, IsUncached, turn_numbered}
 use Rattle.fly_work.proofs.ActingLemmas.{pairs_none}
+use Rattle.fly_work.proofs.SlotSteps.{uncached-task}
 use Rattle.fly_work.specs.Playing.{HasChildren}
 use Rattle.fly_work.specs.Turns.{call_entry}
 use Rattle.fly_journal.specs.Lines.{line_text}
@@ -88,15 +90,18 @@ module _ (prefixes : PrefixesAreLegal) (extends : StepsExtend) (writes : WritesA
       }
 
 pub has-laws : PrefixesAreLegal → StepsExtend → WritesAreRounds → LaunchesAreSingle → WorldsAreOfPlan
-    → (plan : RunPlan) (f : Workflow)
-    → IsOuterPlan plan f → RunsHaveLaws plan
-has-laws prefixes extends writes launches worlds plan f outer hash w history = record {
+    → LegalJournalsAgree → FinalSlotsStay → (plan : RunPlan) (f : Workflow)
+    → IsOuterPlan plan f → IsUncached plan → RunsHaveLaws plan
+has-laws prefixes extends writes launches worlds agree finals plan f outer uncached hash w history = record {
   fronts = fronts prefixes plan hash w history;
   rounds = rounds prefixes extends writes plan hash w history;
   single = λ front back is.
       let prefix : IsPrefix plan hash front back w = fronts prefixes plan hash w history front back is in
       launches plan hash (beginning hash ∷ front) (prefix.world, prefix.front_is);
   typed = worlds plan f hash w.entries w outer history;
+  evaluated = agree plan f hash w.entries w outer (λ i p there. uncached-task plan p uncached) history;
+  final = λ front more back before after number x at slot is before_is leads.
+      finals plan hash front more before after number x at slot before_is leads;
 }
 
 -- ---- a run of an opened store
@@ -150,6 +155,8 @@ module _ (run : RunSetup) (opened : Kept) (begun : IsOpened run.plan run.hash ru
         claimed = none-ran;
         single = has.single;
         typed = has.typed;
+        evaluated = has.evaluated;
+        final = has.final;
       }
 
   -- it was driven
@@ -178,6 +185,8 @@ module _ (run : RunSetup) (opened : Kept) (begun : IsOpened run.plan run.hash ru
             (λ q h n. HasChildren q h new.world.entries (calls_of drives.turns) drives.children) drives.claimed;
         single = has.single;
         typed = has.typed;
+        evaluated = has.evaluated;
+        final = has.final;
       }
 
   -- ---- what came to the file

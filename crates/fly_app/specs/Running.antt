@@ -8,6 +8,7 @@ use Rattle.fly_world.specs.Journals.{IsHistory}
 use Rattle.fly_world.specs.Kept.{Kept, IsLegal}
 use Rattle.fly_world.specs.Versions.{IsWorldOfPlan}
 use Rattle.fly_world.specs.World.{World, are_all_over}
+use Rattle.fly_history.specs.Laws.{IsPlainlyEvaluated}
 use Rattle.fly_round.specs.declared.told.Told.{Told}
 use Rattle.fly_work.specs.declared.driving.DriveFault.{DriveFault}
 use Rattle.fly_work.specs.declared.driving.DriveFault.TheVariants as fault
@@ -25,7 +26,7 @@ use Rattle.fly_app.specs.Printing.{unwritten_text, no_memory_text}
 use Rattle.fly_app.specs.Answers.{LacksMemory}
 use Rattle.fly_app.specs.RunAnswers.{HasRun}
 use Rattle.fly_app.specs.RunOutside.{RunOutside, WorkOutside, FailsAppend, HasNotWorked}
-use Rattle.fly_app.specs.Runs.{RunSetup, HasLegalFronts, HasSingleFronts, HasRounds, HasStatus, IsFinished, IsBrokenOff, calls_of}
+use Rattle.fly_app.specs.Runs.{RunSetup, HasLegalFronts, HasSingleFronts, HasRounds, KeepsFinalSlots, HasStatus, IsFinished, IsBrokenOff, calls_of}
 
 -- ---- driving a store whose journal is kept in a file
 
@@ -68,6 +69,8 @@ pub record HasLaws (plan : RunPlan) (hash : List ℕ) (w : World) : Type 0 where
   pub rounds : HasRounds plan hash w
   pub single : HasSingleFronts hash w.entries
   pub typed : IsWorldOfPlan plan w
+  pub evaluated : IsPlainlyEvaluated plan w.entries w
+  pub final : KeepsFinalSlots plan hash w
 
 -- of each run of the plan
 abbrev pub RunsHaveLaws : RunPlan → Type 0

@@ -1,5 +1,5 @@
 -- Runs of a plan by one worker, and how they end.
-use Rattle.std.specs.Prelude.{◌≡◌, ◌<◌, ℕ, true, List, [], ◌∷◌, ◌++◌, map, flat_map, length, All, AllPairs, Contains}
+use Rattle.std.specs.Prelude.{◌≡◌, ◌<◌, ℕ, true, List, [], ◌∷◌, ◌++◌, map, flat_map, length, slice_get, All, AllPairs, Contains, Some}
 use Rattle.fly_types.specs.declared.text.Text.{Text}
 use Rattle.fly_ports.specs.Files.{FilesState}
 use Rattle.fly_docs.specs.declared.closure.Closure.{Closure}
@@ -8,12 +8,17 @@ use Rattle.fly_state.specs.declared.phase.Phase.TheVariants as phase
 use Rattle.fly_state.specs.declared.entries.Entry.{Entry}
 use Rattle.fly_state.specs.declared.entries.Op.TheVariants as op
 use Rattle.fly_state.specs.declared.entries.Reply.TheVariants as reply
+use Rattle.fly_state.specs.declared.moves.At.{At}
 use Rattle.fly_state.specs.declared.moves.Move.{Move}
+use Rattle.fly_state.specs.declared.slots.SlotState.{SlotState}
 use Rattle.fly_state.specs.Plans.{RunPlan, plan_for}
+use Rattle.fly_state.specs.States.{is_final}
+use Rattle.fly_state.specs.Laws.{slot_at}
 use Rattle.fly_world.specs.World.{World, Execution, are_all_over}
-use Rattle.fly_world.specs.Journals.{IsHistory, beginning}
+use Rattle.fly_world.specs.Journals.{IsHistory, Leads, beginning}
 use Rattle.fly_world.specs.Laws.{IsPrefix, IsRoundOn, HasSingleLaunches}
 use Rattle.fly_world.specs.Versions.{IsWorldOfPlan}
+use Rattle.fly_history.specs.Laws.{IsPlainlyEvaluated}
 use Rattle.fly_round.specs.declared.told.Told.{Told}
 use Rattle.fly_work.specs.Children.{Child, RunAll}
 use Rattle.fly_work.specs.Stages.{Turn}
@@ -59,6 +64,15 @@ HasRounds plan hash w =
     (front back : List Entry) (worker : ℕ) (exec : Text) (base version : ℕ) (moves : List Move)
     → let e : Entry = record { worker = worker; op = op.Write exec base moves; reply = reply.Written version } in
     w.entries ≡ front ++ e ∷ back → IsRoundBehind plan hash front e exec base version moves
+
+-- a slot that is final in the version that is current behind a front of the journal stands so, with its outputs and its
+-- code, in the version that is current behind any longer front
+abbrev pub KeepsFinalSlots : RunPlan → List ℕ → World → Type 0
+KeepsFinalSlots plan hash w =
+    (front more back : List Entry) (before after : World) (number : ℕ) (x : Execution) (at : At) (slot : SlotState)
+    → w.entries ≡ front ++ more ++ back → IsHistory plan hash front before → Leads plan before more after
+    → slice_get before.executions number ≡ Some x → slot_at x.state at ≡ Some slot → is_final slot.phase ≡ true
+    → (y : Execution) × (slice_get after.executions number ≡ Some y) × (slot_at y.state at ≡ Some slot)
 
 -- ---- runs
 
@@ -114,6 +128,10 @@ pub record IsRunOf (run : RunSetup) (before after : WorkOutside) (w : World) : T
   pub single : HasSingleFronts run.hash w.entries
   -- what was submitted, launched and recorded is of its declared type, and so is what stands in each version
   pub typed : IsWorldOfPlan run.plan w
+  -- each launch has the inputs that plain evaluation gives its attempt, over what the journal records, and each version
+  -- agrees with it
+  pub evaluated : IsPlainlyEvaluated run.plan w.entries w
+  pub final : KeepsFinalSlots run.plan run.hash w
 
 -- ---- runs to the end
 

@@ -11,6 +11,7 @@ ghost use Rattle.fly_app.specs.Running.{DrivesFile, PrintsReport, RunsHaveLaws, 
 use crate::Status;
 use crate::printing::{out_of_memory, print};
 use fly_docs::Submission;
+use fly_history::legal_journals_agree;
 use fly_keeper::{FileKeep, keep_journal};
 use fly_opening::open_run;
 use fly_ports::{Clock, Files, Gate, Hand, Sink, Spawner};
@@ -19,15 +20,16 @@ use fly_state::{Phase, Plan};
 use fly_types::{List, NoMemory};
 use fly_work::{DriveFault, Keep, KeepFault, Steps, drive_alone};
 use fly_world::{
-    World, launches_are_single, legal_prefixes, steps_extend, versions_are_shaped,
-    worlds_are_of_plan, writes_are_rounds,
+    World, final_slots_stay, launches_are_single, legal_prefixes, steps_extend,
+    versions_are_shaped, worlds_are_of_plan, writes_are_rounds,
 };
 use std::alloc::Global;
 use std::marker::Brand;
 use std::sync::ledger::{Blank, Ledger};
 
-/// What the laws of the store say of each run of the plan. The call does nothing.
+/// What the laws of the store and of plain evaluation say of each run of the plan. The call does nothing.
 fn laws_of_runs(plan: &Plan)
+    requires { IsUncached plan.now }
     ensures { RunsHaveLaws plan.now }
 {
     plan.primary();
@@ -36,6 +38,8 @@ fn laws_of_runs(plan: &Plan)
     writes_are_rounds();
     launches_are_single();
     worlds_are_of_plan();
+    legal_journals_agree();
+    final_slots_stay();
 }
 
 /// Drives a run that was opened to its end, and counts its passes on a ledger of its own.

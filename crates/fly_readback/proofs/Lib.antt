@@ -4,9 +4,9 @@ mod ClearTypes
 mod Dates
 mod Faultless
 mod LiteralLaws
-mod Messages
-mod Plain
-mod ReadLiterals
+pub mod Messages
+pub mod Plain
+pub mod ReadLiterals
 mod ReadTrees
 mod ReadTypes
-mod Texts
+pub mod Texts

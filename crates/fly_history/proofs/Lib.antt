@@ -1,0 +1,9 @@
+pub mod Grown
+pub mod Unanswered
+pub mod KnownResults
+pub mod AskedSeen
+pub mod AttemptCounts
+pub mod LaunchSeen
+pub mod LaunchRuns
+pub mod EvaluatedWorlds
+pub mod Histories
