@@ -1,7 +1,5 @@
 pub mod FirstAgrees
 pub mod LaterAgrees
-pub mod Points
-pub mod Sights
 pub mod AttemptEnds
 pub mod Signs
 pub mod StandingSeen

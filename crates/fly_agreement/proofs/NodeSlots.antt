@@ -42,7 +42,7 @@ use Rattle.fly_eval.specs.Evaluation.{Entering, node_slot, by_hit, task_attempts
 use Rattle.fly_agreement.specs.Agreement.{given_inputs, given_choice, HasGivenInputs, AreTriedAgain, IsTriedAgain, SucceedsWith, TellsVerdict, is_under_way, AgreesNode, Agrees}
 use Rattle.fly_agreement.specs.Laws.{HasNoCached, HasKnownResults}
 use Rattle.fly_agreement.proofs.AttemptEnds.{ended}
-use Rattle.fly_agreement.proofs.Sights.{small, verdict-is}
+use Rattle.fly_eval.proofs.Sights.{small, verdict-is}
 use Rattle.fly_agreement.proofs.StandingSeen.{ready-standing, ready-inputs, skipped-verdict}
 
 -- ---- what is taken

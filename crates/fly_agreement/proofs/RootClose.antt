@@ -36,7 +36,7 @@ use Rattle.fly_eval.specs.Evaluation as eval
 use Rattle.fly_eval.specs.Evaluation.{Sight, is_pending, by_outputs, instance_verdict, verdict_in_instance, whole_sight, root_verdict}
 use Rattle.fly_eval.proofs.KnownSame.{workflow_outputs-same}
 use Rattle.fly_agreement.specs.Agreement.{SucceedsWith, TellsIn, TellsVerdict, Agrees}
-use Rattle.fly_agreement.proofs.Points.{node-there}
+use Rattle.fly_eval.proofs.Points.{node-there}
 use Rattle.fly_agreement.proofs.StandingSeen.{if-same, option-same, tells, unaborted, blocked-verdict}
 
 -- ---- tests of numbers and lists

@@ -34,7 +34,7 @@ use Rattle.fly_eval.specs.declared.results.Hits.{Hits}
 use Rattle.fly_eval.specs.Evaluation.{whole_sight, root_verdict}
 use Rattle.fly_agreement.specs.Agreement.{has_run, is_under_way, AgreesNode, Agrees}
 use Rattle.fly_agreement.specs.Laws.{HasNoCached, HasKnownResults}
-use Rattle.fly_agreement.proofs.Points.{outer-none}
+use Rattle.fly_eval.proofs.Points.{outer-none}
 use Rattle.fly_agreement.proofs.NodeSlots.{IsFit, fit-own}
 use Rattle.fly_agreement.proofs.NodeSteps.{fit-step}
 use Rattle.fly_agreement.proofs.RootClose.{IsFitRoot, root-own, root-closed}

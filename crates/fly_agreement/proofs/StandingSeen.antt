@@ -40,9 +40,9 @@ use Rattle.fly_eval.specs.Evaluation as eval
 use Rattle.fly_eval.specs.Evaluation.{Sight, task_attempts, verdict_by, whole_sight}
 use Rattle.fly_eval.proofs.StandingKept.{IsKeptStanding}
 use Rattle.fly_agreement.specs.Agreement.{TellsIn, TellsVerdict, Agrees}
-use Rattle.fly_agreement.proofs.Points.{node-there, named-looked}
+use Rattle.fly_eval.proofs.Points.{node-there, named-looked}
 use Rattle.fly_agreement.proofs.Signs.{among-kept, sign-kept}
-use Rattle.fly_agreement.proofs.Sights.{seen, seen-verdict, standing-is, inputs-are, verdict-is}
+use Rattle.fly_eval.proofs.Sights.{seen, seen-verdict, standing-is, inputs-are, verdict-is}
 
 pub if-same : {X : Type 0} (b : Bool) (x y z w : X) → (b ≡ true → x ≡ z) → (b ≡ false → y ≡ w) → (if b then x else y) ≡ (if b then z else w)
 if-same true x y z w first second = first refl

@@ -7,3 +7,14 @@ pub mod InInstance
 pub mod VerdictKept
 pub mod RuleKept
 pub mod SeenKept
+pub mod Points
+pub mod Sights
+pub mod PathNumbers
+pub mod PlacesFound
+pub mod AttemptSteps
+pub mod KnownTypes
+pub mod StateTells
+pub mod TypedVerdicts
+pub mod PassSteps
+pub mod JudgedBy
+pub mod RootTold

@@ -37,8 +37,8 @@ use Rattle.fly_eval.specs.declared.results.Hits.{Hits}
 use Rattle.fly_eval.specs.Evaluation as eval
 use Rattle.fly_eval.specs.Evaluation.{Entering, Sight, whole_sight}
 use Rattle.fly_agreement.specs.Agreement.{given_inputs, TellsIn, is_under_way, AgreesNode, Agrees}
-use Rattle.fly_agreement.proofs.Points.{named-looked}
-use Rattle.fly_agreement.proofs.Sights.{seen, seen-verdict, inputs-are}
+use Rattle.fly_eval.proofs.Points.{named-looked}
+use Rattle.fly_eval.proofs.Sights.{seen, seen-verdict, inputs-are}
 use Rattle.fly_agreement.proofs.StandingSeen.{if-same, option-same, tells}
 
 -- ---- phases

@@ -25,7 +25,7 @@ use Rattle.fly_eval.specs.declared.results.Results.{Results}
 use Rattle.fly_eval.specs.declared.results.Hits.{Hits}
 use Rattle.fly_eval.specs.Evaluation.{Entering, Sight, entered, judged, entering_point, verdict_point, entering_in, verdict_in, sight_in, sign_of, standing_by_names, own_standing, known_in, own_entering, entering_of, task_attempts, verdict_entered, verdict_by, verdict_of, looks_of_point, told_at_point, told, whole_sight}
 use Rattle.fly_eval.proofs.KnownSame.{node_inputs-same}
-use Rattle.fly_agreement.proofs.Points.{half-odd, is-even, is-odd, told-in, outer-none, at-entering, at-verdict, named-looked, entering-looks, verdict-looks, told-entering, told-verdict}
+use Rattle.fly_eval.proofs.Points.{half-odd, is-even, is-odd, told-in, outer-none, at-entering, at-verdict, named-looked, entering-looks, verdict-looks, told-entering, told-verdict}
 
 map-same : {X Y : Type 0} (f g : X → Y) (xs : List X) → ((x : X) → Contains xs x → f x ≡ g x) → map f xs ≡ map g xs
 map-same f g [] same = refl
