@@ -1,0 +1,7 @@
+mod ExecutionLemmas
+mod GroupLemmas
+mod FoundTyped
+mod TypedRecords
+mod NamedLists
+mod EvaluatedLemmas
+mod SeenLemmas
