@@ -1,6 +1,5 @@
 -- The report of plain evaluation: what each execution comes to over what a journal records, with its nodes and their
--- items
--- in plan order. It has the form of the report of a run.
+-- items in plan order. It has the form of the report of a run.
 use Rattle.std.specs.Option.{option_map_or}
 use Rattle.std.specs.Prelude.{ℕ, Bool, ◌||◌, List, ◌++◌, map, flat_map, length, count_by, codes, Option, Some, None, is_some, option_and_then, if◌then◌else◌}
 use Rattle.fly_types.specs.declared.text.Text.{Text}

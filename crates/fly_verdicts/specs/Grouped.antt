@@ -1,4 +1,5 @@
--- What a journal records, in a list for each execution, by the numbers of executions.
+-- What a journal records, in a list for each execution, by the numbers of executions. Private contracts alone cite this
+-- file.
 use Rattle.std.specs.Prelude.{◌≡◌, ℕ, ◌<◌, ◌≤◌, ◌==◌, Bool, false, List, [], ◌++◌, map, filter, flat_map, length, slice_get, Option, Some, if◌then◌else◌}
 use Rattle.std.specs.Option.{option_map_or}
 use Rattle.std.specs.Global.{Vec}

@@ -1,5 +1,4 @@
--- What verdicts are called in what is printed, as the phases are in which a run tells them, and what stands behind
--- their
+-- What verdicts are called in what is printed, as the phases are in which a run tells them, and what stands behind their
 -- words.
 use Rattle.std.specs.Prelude.{ℕ, Bool, true, false, List, [], codes, Option, Some, None}
 use Rattle.fly_types.specs.declared.text.Text.{Text}
